@@ -1,0 +1,7 @@
+// The two sides of a product.
+
+#[derive(Clone, Copy)]
+pub enum Side {
+    Weights,
+    Activations,
+}
