@@ -32,7 +32,7 @@ WordsRules group words = Range 1 8 words × (groups group 128 * words ≤ 128)
 abbrev pub ShapeRules : Shape → Type 0
 ShapeRules s =
     EndsRules (s .«weight_ends») × EndsRules (s .«activation_ends») × Range 1 128 (s .group)
-      × WordsRules (s .group) (s .«weight_words») × WordsRules (s .group) (s .«activation_words»)
+    × WordsRules (s .group) (s .«weight_words») × WordsRules (s .group) (s .«activation_words»)
 
 -- both zero points are codes of their side
 abbrev pub ZerosWithin : Shape → ZeroPoints → Type 0
