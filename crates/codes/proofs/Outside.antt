@@ -82,3 +82,23 @@ from-start e codes (Some place) f =
 
 pub first-place : (e : Ends) (codes : List ℤ) (r : Option ℕ) → r ≡ firstOutside e codes → FirstPlace e codes r
 first-place e codes r h = subst (FirstPlace e codes) (sym h) (from-start e codes (firstOutside e codes) (found-from 0 e codes))
+
+-- no code before the place `at` lies outside: so the first one outside is the one at `at`, if it is, and none at the end
+pub record Scanned (e : Ends) (codes : List ℤ) (at : ℕ) : Type 0 where
+  pub rest : outsideFrom at e (drop at codes) ≡ firstOutside e codes
+  pub here : at < length codes → holds e (getD codes at (pos 0)) ≡ false → (Some at ≡ firstOutside e codes) × FirstPlace e codes (Some at)
+  pub none : length codes ≤ at → (None ≡ firstOutside e codes) × FirstPlace e codes None
+
+scanned : (e : Ends) (codes : List ℤ) (at : ℕ) → outsideFrom at e (drop at codes) ≡ firstOutside e codes → Scanned e codes at
+scanned e codes at rest =
+    record {
+      rest = rest;
+      here = λ h k. (let v = sym (outside-here at e codes h k) ∙ rest in (v, first-place e codes (Some at) v));
+      none = λ h. (let v = sym (outside-none at e codes h) ∙ rest in (v, first-place e codes None v));
+    }
+
+pub scanned-none : (e : Ends) (codes : List ℤ) → Scanned e codes 0
+scanned-none e codes = scanned e codes 0 refl
+
+pub scanned-more : (e : Ends) (codes : List ℤ) (at : ℕ) → Scanned e codes at → at < length codes → holds e (getD codes at (pos 0)) ≡ true → Scanned e codes (at + 1)
+scanned-more e codes at s h k = scanned e codes (at + 1) (sym (outside-more at e codes h k) ∙ s .rest)
