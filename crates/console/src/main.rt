@@ -8,15 +8,16 @@ use std::io::BufRead;
 use std::io::BufReader;
 
 fn main(rt: LibcRuntime) -> Result<(), AnyError> {
+    let heap = rt.alloc();
     let mut input = BufReader::new(rt.stdin());
-    let mut bytes = Vec::new(rt.alloc());
+    let mut bytes = Vec::new(heap);
     for number in 1..u64::MAX {
         bytes.clear();
         if input.read_until(b'\n', &mut bytes)? == 0 {
             break;
         }
         if let Some(reply) = line::answer(bytes.as_slice()) {
-            reply.print(&rt, number)?;
+            rt.println(reply.text(heap, number)?)?;
         }
     }
     Ok(())

@@ -1,5 +1,10 @@
 // What the console says to a line.
-use std::io;
+ghost use mathlib.Core.Path.{_≡_};
+ghost use Rattle.std.specs.Of.String.{string-bytes};
+ghost use Rattle.std.specs.Vec.{made};
+ghost use Rattle.console.specs.Texts.{textOf};
+use std::alloc::AllocError;
+use std::alloc::Global;
 
 #[derive(Clone, Copy)]
 pub(crate) enum Reply {
@@ -12,11 +17,14 @@ pub(crate) enum Reply {
 }
 
 impl Reply {
-    pub(crate) fn print(self, rt: &LibcRuntime, line: u64) -> io::Result<()> {
+    // The text that answers the line with this number.
+    pub(crate) fn text(self, heap: Global, line: u64) -> Result<String, AllocError>
+        ensures { λ r. ⌜ made r (λ text. string-bytes text ≡ textOf line self) ⌝ }
+    {
         match self {
-            Reply::Accepted { interval } => println!(rt, "accepted interval {interval}"),
-            Reply::Refused { number } => println!(rt, "refused {number}"),
-            Reply::Expected(what) => println!(rt, "error {line} expected {what}"),
+            Reply::Accepted { interval } => format!(heap, "accepted interval {interval}"),
+            Reply::Refused { number } => format!(heap, "refused {number}"),
+            Reply::Expected(what) => format!(heap, "error {line} expected {what}"),
         }
     }
 }
