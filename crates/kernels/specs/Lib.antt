@@ -1,0 +1,8 @@
+pub mod Refusals
+pub mod Groups
+pub mod Answers
+pub mod Meanings
+pub mod Lists
+pub mod Reads
+pub mod Told
+pub mod Tables
