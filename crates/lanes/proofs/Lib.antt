@@ -1,0 +1,10 @@
+pub mod Product
+pub mod Masks
+pub mod Digits
+pub mod Packings
+pub mod Reading
+pub mod Stepping
+pub mod RowTables
+pub mod Sizes
+pub mod Planning
+pub mod Makes

@@ -1,0 +1,4 @@
+pub mod Lanes
+pub mod Words
+pub mod Rows
+pub mod Tables
