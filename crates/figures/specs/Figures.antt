@@ -1,14 +1,21 @@
--- Worked figures of plans. Each has one row and zero points 0.
-use Prim.Native.Nat.{ℕ}
+-- Worked figures: of plans, each with one row and zero points 0, and of the words and lanes of the lane kernels.
+use Prim.Native.Nat.{ℕ, _*_, _%_, _^_}
 use mathlib.Core.Path.{_≡_}
-use lib.IntN.{pos}
+use mathlib.Core.List.{List, [], _∷_}
+use lib.IntN.{ℤ, pos}
+use Rattle.codes.specs.declared.shape.Shape.{Shape}
+use Rattle.codes.specs.declared.side.Side.the-variants.{Weights, Activations}
 use Rattle.plans.specs.declared.kind.Kind.{Kind}
 use Rattle.plans.specs.declared.kind.Kind.the-variants.{P1, P2, Planes, Split}
 use Rattle.plans.specs.declared.request.Request.{Request}
 use Rattle.plans.specs.declared.refusal.PlanRefusal.{PlanRefusal}
+use Rattle.plans.specs.Kinds.{shapeOf}
 use Rattle.plans.specs.Lanes.{laneWidth}
 use Rattle.plans.specs.Questions.{refusalNumber}
 use Rattle.plans.specs.Answers.{Accepted, FirstNo}
+use Rattle.kernels.specs.Groups.{dot}
+use Rattle.lanes.specs.Lanes.{p1Width, p2Width, readLane}
+use Rattle.lanes.specs.Words.{packedLanes}
 
 abbrev pub asks : (weightSize activationSize depth interval longest : ℕ) → Request
 asks x y depth interval longest = record {
@@ -54,5 +61,18 @@ pub record PlanFigures : Type 0 where
   pub planes-sum : Takes Planes 8 8 16 33025 4128
   pub planes-sum-33026 : Refused Planes (asks 8 8 16 0 33026) 8
 
+-- the words of a group of weights and a group of activations, and the total that the read lane holds when their product
+-- was added to an empty accumulator that is cut to so many bits
+pub record LaneFigure (width : Shape → ℕ) (s : Shape) (bits : ℕ) (weights activations : List ℤ) (weightWord activationWord total : ℕ) : Type 0 where
+  pub weight-word : packedLanes (width s) s Weights weights ≡ weightWord ∷ []
+  pub activation-word : packedLanes (width s) s Activations activations ≡ activationWord ∷ []
+  pub lane : readLane (width s) (s .group) ((weightWord * activationWord) % 2 ^ bits) ≡ total
+  pub sum : dot weights activations ≡ pos total
+
+pub record LaneFigures : Type 0 where
+  pub p1 : LaneFigure p1Width (shapeOf P1 (asks 2 2 2 0 1)) 16 (pos 1 ∷ pos 2 ∷ []) (pos 3 ∷ pos 1 ∷ []) 258 259 5
+  pub p2 : LaneFigure p2Width (shapeOf P2 (asks 2 2 3 0 1)) 32 (pos 1 ∷ pos 2 ∷ pos 3 ∷ []) (pos 3 ∷ pos 0 ∷ pos 2 ∷ []) 16643 32771 9
+
 pub record Figures : Type 0 where
   pub plans : PlanFigures
+  pub lanes : LaneFigures
