@@ -1,13 +1,24 @@
--- The text of a reply.
+-- The texts of replies, as bytes.
 use Prim.Native.Nat.{ℕ}
 use mathlib.Core.List.{List, _++_}
 use lib.Chars.{codes}
-use Rattle.std.specs.Written.{decimal}
-use Rattle.console.specs.declared.reply.Reply.{Reply}
-use Rattle.console.specs.declared.reply.Reply.the-variants.{Accepted, Refused, Expected}
+use lib.IntN.{ℤ}
+use Rattle.std.specs.Written.{decimal, signed}
 
--- the reply to the line with this number, as bytes
-abbrev pub textOf : (line : ℕ) → Reply → List ℕ
-textOf line (Accepted interval) = codes "accepted interval " ++ decimal interval
-textOf line (Refused number) = codes "refused " ++ decimal number
-textOf line (Expected what) = codes "error " ++ (decimal line ++ (codes " expected " ++ what .now))
+abbrev pub acceptedText : (interval : ℕ) → List ℕ
+acceptedText interval = codes "accepted interval " ++ decimal interval
+
+abbrev pub refusedText : (number : ℕ) → List ℕ
+refusedText number = codes "refused " ++ decimal number
+
+abbrev pub refusedAtText : (number place : ℕ) → List ℕ
+refusedAtText number place = codes "refused " ++ (decimal number ++ (codes " " ++ decimal place))
+
+abbrev pub expectedText : (line : ℕ) (what : List ℕ) → List ℕ
+expectedText line what = codes "error " ++ (decimal line ++ (codes " expected " ++ what))
+
+abbrev pub stepsText : ℕ → List ℕ
+stepsText steps = codes "steps " ++ decimal steps
+
+abbrev pub totalText : ℤ → List ℕ
+totalText total = codes "total " ++ signed total
