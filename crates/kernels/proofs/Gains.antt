@@ -20,16 +20,17 @@ use Rattle.kernels.specs.declared.refusal.StepRefusal.{StepRefusal}
 use Rattle.kernels.specs.declared.refusal.StepRefusal.the-variants.{Row, Length}
 use Rattle.kernels.specs.Groups.{Unpacking, dot}
 use Rattle.kernels.specs.Answers.{ask, stepGain, stepAnswer, gainOf, bothDot}
-use Rattle.kernels.specs.Told.{given, stepTold, lengthsFit, StepAsked}
+use Rattle.std.specs.Options.{isSome}
+use Rattle.kernels.specs.Allowed.{stepByTests, lengthsFit, StepAllowed}
 
-told-gain : (row lengths below : Bool) (w a : Option (List ℤ))
-    → stepTold row lengths (given w && given a) below ≡ stepAnswer (ask row Row (ask lengths Length (gainOf (bothDot w a) below)))
-told-gain false lengths below w a = refl
-told-gain true false below w a = refl
-told-gain true true below None a = refl
-told-gain true true below (Some w) None = refl
-told-gain true true true (Some w) (Some a) = refl
-told-gain true true false (Some w) (Some a) = refl
+tests-gain : (row lengths below : Bool) (w a : Option (List ℤ))
+    → stepByTests row lengths (isSome w && isSome a) below ≡ stepAnswer (ask row Row (ask lengths Length (gainOf (bothDot w a) below)))
+tests-gain false lengths below w a = refl
+tests-gain true false below w a = refl
+tests-gain true true below None a = refl
+tests-gain true true below (Some w) None = refl
+tests-gain true true true (Some w) (Some a) = refl
+tests-gain true true false (Some w) (Some a) = refl
 
 record Parts (row l k below : Bool) (w a : Option (List ℤ)) : Type 0 where
   pub row-yes : row ≡ true
@@ -53,7 +54,7 @@ parts true true true true (Some w) (Some a) h =
     record { row-yes = refl; w-yes = refl; a-yes = refl; below-yes = refl; w-codes = w; a-codes = a; w-is = refl; a-is = refl; gains = refl }
 
 module _ (unpacked : Unpacking) (f : Facts) (row steps : ℕ) (weights activations : List ℕ) where
-  asked-yes : stepAnswer (stepGain unpacked f row steps weights activations) ≡ Ok tt → StepAsked unpacked f row steps weights activations
+  asked-yes : stepAnswer (stepGain unpacked f row steps weights activations) ≡ Ok tt → StepAllowed unpacked f row steps weights activations
   unfolding stepGain
   asked-yes h =
       let p = parts (ltb row 64) (eqb (length weights) (wordsOn (f .shape) Weights)) (eqb (length activations) (wordsOn (f .shape) Activations))
@@ -71,26 +72,26 @@ module _ (unpacked : Unpacking) (f : Facts) (row steps : ℕ) (weights activatio
       }
 
   made-yes : (r : Result (Unit {0}) StepRefusal) → r ≡ stepAnswer (stepGain unpacked f row steps weights activations)
-      → made r (λ _. StepAsked unpacked f row steps weights activations)
+      → made r (λ _. StepAllowed unpacked f row steps weights activations)
   made-yes (Ok u) e = asked-yes (sym e)
   made-yes (Err x) e = tt
 
   -- the answer of a step's questions, with what a yes has found
-  pub record Told (r : Result (Unit {0}) StepRefusal) : Type 0 where
+  pub record StepAnswered (r : Result (Unit {0}) StepRefusal) : Type 0 where
     pub answer : r ≡ stepAnswer (stepGain unpacked f row steps weights activations)
-    pub found : made r (λ _. StepAsked unpacked f row steps weights activations)
+    pub found : made r (λ _. StepAllowed unpacked f row steps weights activations)
 
-  pub step-told : (lengths packings below : Bool) (r : Result (Unit {0}) StepRefusal)
-      → r ≡ stepTold (ltb row 64) lengths packings below
+  pub step-answered : (lengths packings below : Bool) (r : Result (Unit {0}) StepRefusal)
+      → r ≡ stepByTests (ltb row 64) lengths packings below
       → lengths ≡ lengthsFit (f .shape) (length weights) (length activations)
-      → packings ≡ (given (unpacked Weights weights) && given (unpacked Activations activations))
+      → packings ≡ (isSome (unpacked Weights weights) && isSome (unpacked Activations activations))
       → below ≡ ltb steps (f .interval)
-      → Told r
+      → StepAnswered r
   unfolding stepGain
-  step-told lengths packings below r e hl hp hb =
+  step-answered lengths packings below r e hl hp hb =
       let fit : Bool = lengthsFit (f .shape) (length weights) (length activations) in
       let a : r ≡ stepAnswer (stepGain unpacked f row steps weights activations) =
-      e ∙ ap (λ (b : Bool). stepTold (ltb row 64) b packings below) hl ∙ ap (λ (b : Bool). stepTold (ltb row 64) fit b below) hp
-      ∙ ap (λ (b : Bool). stepTold (ltb row 64) fit (given (unpacked Weights weights) && given (unpacked Activations activations)) b) hb
-      ∙ told-gain (ltb row 64) fit (ltb steps (f .interval)) (unpacked Weights weights) (unpacked Activations activations) in
+      e ∙ ap (λ (b : Bool). stepByTests (ltb row 64) b packings below) hl ∙ ap (λ (b : Bool). stepByTests (ltb row 64) fit b below) hp
+      ∙ ap (λ (b : Bool). stepByTests (ltb row 64) fit (isSome (unpacked Weights weights) && isSome (unpacked Activations activations)) b) hb
+      ∙ tests-gain (ltb row 64) fit (ltb steps (f .interval)) (unpacked Weights weights) (unpacked Activations activations) in
       record { answer = a; found = made-yes r a }

@@ -203,7 +203,7 @@ module _ (packed : Packing) (unpacked : Unpacking) (s : Shape) (side : Side) (pa
   repacks n words before codes r e after =
       let all : Result (List ℤ) ℕ = unpackedList unpacked s side n words in
       let P : Result (Unit {0}) UnpackRefusal → Type 0 = λ x. Repacks packed s side n words (cond (isOk x) (codesAfter all before) before) x in
-      let told : P (unpackListAnswer unpacked s side n words) =
+      let known : P (unpackListAnswer unpacked s side n words) =
       elim (cases-bool (leb 1 n && leb n 65536)) [
         | inr k ↦ subst P (sym (cond-false _ _ _ k)) tt
         | inl k ↦
@@ -213,24 +213,24 @@ module _ (packed : Packing) (unpacked : Unpacking) (s : Shape) (side : Side) (pa
               | inl j ↦ subst P (sym (cond-true _ _ _ j)) (listed n words before all (eqb-true _ _ j) refl)
             ])
       ] in
-      subst (λ (x : List ℤ). Repacks packed s side n words x r) (sym after) (subst P (sym e) told)
+      subst (λ (x : List ℤ). Repacks packed s side n words x r) (sym after) (subst P (sym e) known)
 
   -- all that an end of an unpacking has to tell
-  pub record Told (n : ℕ) (words : List ℕ) (before codes : List ℤ) (r : Result (Unit {0}) UnpackRefusal) : Type 0 where
+  pub record ListUnpacked (n : ℕ) (words : List ℕ) (before codes : List ℤ) (r : Result (Unit {0}) UnpackRefusal) : Type 0 where
     pub answer : r ≡ unpackListAnswer unpacked s side n words
     pub after : codes ≡ cond (isOk r) (codesAfter (unpackedList unpacked s side n words) before) before
     pub again : Repacks packed s side n words codes r
 
   -- an end that refuses
-  pub told-refused : (n : ℕ) (words : List ℕ) (before : List ℤ) (r : Result (Unit {0}) UnpackRefusal) (e : UnpackRefusal) → r ≡ Err e → Err e ≡ unpackListAnswer unpacked s side n words → Told n words before before r
-  told-refused n words before r e is h =
+  pub unpack-refused : (n : ℕ) (words : List ℕ) (before : List ℤ) (r : Result (Unit {0}) UnpackRefusal) (e : UnpackRefusal) → r ≡ Err e → Err e ≡ unpackListAnswer unpacked s side n words → ListUnpacked n words before before r
+  unpack-refused n words before r e is h =
       let after : before ≡ cond (isOk r) (codesAfter (unpackedList unpacked s side n words) before) before = sym (ap (λ x. cond (isOk x) (codesAfter (unpackedList unpacked s side n words) before) before) is) in
       record { answer = is ∙ h; after = after; again = repacks n words before before r (is ∙ h) after }
 
   -- the end after all codes are read
-  pub told-read : (n : ℕ) (words : List ℕ) (before codes : List ℤ) → Ok tt ≡ sizesAnswer s side n words → Ok tt ≡ badGroup (unpackedList unpacked s side n words)
-      → ((all : List ℤ) → unpackedList unpacked s side n words ≡ Ok all → codes ≡ all) → Told n words before codes (Ok tt)
-  told-read n words before codes sizes good read =
+  pub unpack-read : (n : ℕ) (words : List ℕ) (before codes : List ℤ) → Ok tt ≡ sizesAnswer s side n words → Ok tt ≡ badGroup (unpackedList unpacked s side n words)
+      → ((all : List ℤ) → unpackedList unpacked s side n words ≡ Ok all → codes ≡ all) → ListUnpacked n words before codes (Ok tt)
+  unpack-read n words before codes sizes good read =
       let answer : Ok tt ≡ unpackListAnswer unpacked s side n words = sizes-pass unpacked s side n words (Ok tt) sizes good in
       let all = has-codes (unpackedList unpacked s side n words) good in
       let after : codes ≡ codesAfter (unpackedList unpacked s side n words) before = read (all .codes) (all .is) ∙ sym (ap (λ r. codesAfter r before) (all .is)) in

@@ -4,5 +4,5 @@ pub mod Answers
 pub mod Meanings
 pub mod Lists
 pub mod Reads
-pub mod Told
+pub mod Allowed
 pub mod Tables

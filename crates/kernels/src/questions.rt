@@ -4,7 +4,7 @@ ghost use lib.Dec.{ltb, eqb};
 ghost use Rattle.std.specs.Vec.{made};
 ghost use Rattle.codes.specs.Shapes.{wordsOn};
 ghost use Rattle.kernels.specs.Answers.{packAnswer, groupAnswer};
-ghost use Rattle.kernels.specs.Told.{stepTold, codeTold, lengthsFit, CodesAsked, CodeAsked};
+ghost use Rattle.kernels.specs.Allowed.{stepByTests, codeByTests, lengthsFit, CodesAllowed, CodeAllowed};
 use crate::refusal::CodeRefusal;
 use crate::refusal::PackRefusal;
 use crate::refusal::StepRefusal;
@@ -14,7 +14,7 @@ use codes::side::Side;
 // A step: is there such a row, are there the words of one group on both sides, are both packings, and has the row made
 // fewer steps than its interval?
 pub fn ask_step(row: bool, lengths: bool, packings: bool, below: bool) -> Result<(), StepRefusal>
-    ensures { λ r. ⌜ r ≡ stepTold row lengths packings below ⌝ }
+    ensures { λ r. ⌜ r ≡ stepByTests row lengths packings below ⌝ }
 {
     if !row {
         return Err(StepRefusal::Row);
@@ -42,7 +42,7 @@ pub fn ask_codes(
     words: usize,
 ) -> Result<(), PackRefusal>
     ensures answer { λ r. ⌜ r ≡ packAnswer most needed (now (shape .entry)) side (now (codes .entry)) words ⌝ }
-    ensures yes { λ r. ⌜ made r (λ _. CodesAsked most needed (now (shape .entry)) side (now (codes .entry)) words) ⌝ }
+    ensures yes { λ r. ⌜ made r (λ _. CodesAllowed most needed (now (shape .entry)) side (now (codes .entry)) words) ⌝ }
 {
     if codes.len() < 1 {
         return Err(PackRefusal::Count);
@@ -62,7 +62,7 @@ pub fn ask_codes(
 // Packing a group: at most a full one, and exactly its words.
 pub fn ask_group(shape: &Shape, side: Side, codes: &[i16], words: usize) -> Result<(), PackRefusal>
     ensures answer { λ r. ⌜ r ≡ groupAnswer (now (shape .entry)) side (now (codes .entry)) words ⌝ }
-    ensures yes { λ r. ⌜ made r (λ _. CodesAsked (now (shape .entry) .group) (wordsOn (now (shape .entry)) side) (now (shape .entry)) side (now (codes .entry)) words) ⌝ }
+    ensures yes { λ r. ⌜ made r (λ _. CodesAllowed (now (shape .entry) .group) (wordsOn (now (shape .entry)) side) (now (shape .entry)) side (now (codes .entry)) words) ⌝ }
 {
     ask_codes(shape, side, codes, shape.group, shape.words(side), words)
 }
@@ -75,8 +75,8 @@ pub fn ask_code(
     packing: bool,
     place: usize,
 ) -> Result<(), CodeRefusal>
-    ensures answer { λ r. ⌜ r ≡ codeTold (ltb place (now (shape .entry) .group)) (eqb words (wordsOn (now (shape .entry)) side)) packing ⌝ }
-    ensures yes { λ r. ⌜ made r (λ _. CodeAsked (now (shape .entry)) side words packing place) ⌝ }
+    ensures answer { λ r. ⌜ r ≡ codeByTests (ltb place (now (shape .entry) .group)) (eqb words (wordsOn (now (shape .entry)) side)) packing ⌝ }
+    ensures yes { λ r. ⌜ made r (λ _. CodeAllowed (now (shape .entry)) side words packing place) ⌝ }
 {
     if place >= shape.group {
         return Err(CodeRefusal::Place);

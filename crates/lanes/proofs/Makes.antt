@@ -11,7 +11,7 @@ use Rattle.plans.specs.declared.plan.P2Plan.{P2Plan}
 use Rattle.plans.specs.declared.request.Request.{Request}
 use Rattle.plans.specs.Lanes.{laneWidth}
 use Rattle.plans.specs.Plans.{FactsOf}
-use Rattle.kernels.specs.Told.{StepAsked}
+use Rattle.kernels.specs.Allowed.{StepAllowed}
 use Rattle.lanes.specs.declared.p1.P1.{P1}
 use Rattle.lanes.specs.declared.p2.P2.{P2}
 use Rattle.lanes.specs.declared.p1_row.P1Row.{P1Row}
@@ -31,7 +31,7 @@ p1-kept k = record { shape = k .«shape_rule»; laid = laid (k .lanes); fits = k
 
 -- a step and a drain of its rows
 pub p1-steps : (k : P1) (row : ℕ) (new : P1Row) (weights activations : List ℕ) → length (k .rows) ≡ 64
-    → StepAsked (unpackedLanes (k .lanes .width) (k .facts .shape)) (k .facts) row (getD (k .rows) row emptyP1 .steps) weights activations
+    → StepAllowed (unpackedLanes (k .lanes .width) (k .facts .shape)) (k .facts) row (getD (k .rows) row emptyP1 .steps) weights activations
     → new .steps ≡ getD (k .rows) row emptyP1 .steps + 1
     → new .accumulator ≡ (getD (k .rows) row emptyP1 .accumulator + (getD weights 0 0 * getD activations 0 0) % 2 ^ 16) % 2 ^ 16
     → TableStepped emptyP1 (λ r. r .steps) (λ r. r .accumulator) (k .facts) (k .lanes .width) (k .lanes .depth) (k .lanes .«weight_size») (k .lanes .«activation_size»)
@@ -62,7 +62,7 @@ p2-kept k = record { shape = k .«shape_rule»; laid = laid (k .lanes); fits = k
 
 -- a step and a drain of its rows
 pub p2-steps : (k : P2) (row : ℕ) (new : P2Row) (weights activations : List ℕ) → length (k .rows) ≡ 64
-    → StepAsked (unpackedLanes (k .lanes .width) (k .facts .shape)) (k .facts) row (getD (k .rows) row emptyP2 .steps) weights activations
+    → StepAllowed (unpackedLanes (k .lanes .width) (k .facts .shape)) (k .facts) row (getD (k .rows) row emptyP2 .steps) weights activations
     → new .steps ≡ getD (k .rows) row emptyP2 .steps + 1
     → new .accumulator ≡ (getD (k .rows) row emptyP2 .accumulator + (getD weights 0 0 * getD activations 0 0) % 2 ^ 32) % 2 ^ 32
     → TableStepped emptyP2 (λ r. r .steps) (λ r. r .accumulator) (k .facts) (k .lanes .width) (k .lanes .depth) (k .lanes .«weight_size») (k .lanes .«activation_size»)

@@ -18,7 +18,7 @@ use Rattle.std.specs.declared.option.Option.the-variants.{Some, None}
 use Rattle.codes.specs.declared.shape.Shape.{Shape}
 use Rattle.codes.specs.declared.side.Side.{Side}
 use Rattle.codes.specs.declared.side.Side.the-variants.{Weights, Activations}
-use Rattle.kernels.specs.Told.{given}
+use Rattle.std.specs.Options.{isSome}
 use Rattle.lanes.specs.Lanes.{laneFor, laneOf}
 use Rattle.lanes.specs.Words.{isWord, isPacking, ordered, codesIn, unpackedLanes}
 use Rattle.lanes.specs.Rows.{SizeFits, ShapeFits, sizeOn}
@@ -85,27 +85,27 @@ code-is w d size side v place lane r fits h ok el er =
 
 -- ---- packings
 
-given-cond : {V : Type 0} (t : Bool) (v : V) → given (cond t (Some v) None) ≡ t
-given-cond true v = refl
-given-cond false v = refl
+some-cond-test : {V : Type 0} (t : Bool) (v : V) → isSome (cond t (Some v) None) ≡ t
+some-cond-test true v = refl
+some-cond-test false v = refl
 
 -- the test of words is whether they unpack
 packing-lanes : (w d x y : ℕ) (side : Side) (words : List ℕ)
-    → isPacking (2 ^ w) d (2 ^ sizeOn x y side - 1) words ≡ given (unpackedLanes w (laneShape d x y) side words)
-packing-lanes w d x y Weights words = sym (given-cond (isPacking (2 ^ w) d (2 ^ x - 1) words) (codesIn (2 ^ w) d Weights (getD words 0 0)))
-packing-lanes w d x y Activations words = sym (given-cond (isPacking (2 ^ w) d (2 ^ y - 1) words) (codesIn (2 ^ w) d Activations (getD words 0 0)))
+    → isPacking (2 ^ w) d (2 ^ sizeOn x y side - 1) words ≡ isSome (unpackedLanes w (laneShape d x y) side words)
+packing-lanes w d x y Weights words = sym (some-cond-test (isPacking (2 ^ w) d (2 ^ x - 1) words) (codesIn (2 ^ w) d Weights (getD words 0 0)))
+packing-lanes w d x y Activations words = sym (some-cond-test (isPacking (2 ^ w) d (2 ^ y - 1) words) (codesIn (2 ^ w) d Activations (getD words 0 0)))
 
-packing-given : (s : Shape) (w d x y : ℕ) → ShapeFits s d x y → (side : Side) (words : List ℕ)
-    → isPacking (2 ^ w) d (2 ^ sizeOn x y side - 1) words ≡ given (unpackedLanes w s side words)
-packing-given s w d x y fits side words =
-    packing-lanes w d x y side words ∙ ap (λ (t : Shape). given (unpackedLanes w t side words)) (sym (shape-is s d x y fits))
+packing-tested : (s : Shape) (w d x y : ℕ) → ShapeFits s d x y → (side : Side) (words : List ℕ)
+    → isPacking (2 ^ w) d (2 ^ sizeOn x y side - 1) words ≡ isSome (unpackedLanes w s side words)
+packing-tested s w d x y fits side words =
+    packing-lanes w d x y side words ∙ ap (λ (t : Shape). isSome (unpackedLanes w t side words)) (sym (shape-is s d x y fits))
 
-pub packings-given : (s : Shape) (w d x y : ℕ) → ShapeFits s d x y → (weights activations : List ℕ)
+pub packings-tested : (s : Shape) (w d x y : ℕ) → ShapeFits s d x y → (weights activations : List ℕ)
     → (isPacking (2 ^ w) d (2 ^ x - 1) weights && isPacking (2 ^ w) d (2 ^ y - 1) activations)
-    ≡ (given (unpackedLanes w s Weights weights) && given (unpackedLanes w s Activations activations))
-packings-given s w d x y fits weights activations =
-    ap (λ (b : Bool). b && isPacking (2 ^ w) d (2 ^ y - 1) activations) (packing-given s w d x y fits Weights weights)
-    ∙ ap (λ (b : Bool). given (unpackedLanes w s Weights weights) && b) (packing-given s w d x y fits Activations activations)
+    ≡ (isSome (unpackedLanes w s Weights weights) && isSome (unpackedLanes w s Activations activations))
+packings-tested s w d x y fits weights activations =
+    ap (λ (b : Bool). b && isPacking (2 ^ w) d (2 ^ y - 1) activations) (packing-tested s w d x y fits Weights weights)
+    ∙ ap (λ (b : Bool). isSome (unpackedLanes w s Weights weights) && b) (packing-tested s w d x y fits Activations activations)
 
 -- words that are a packing: one word, and its codes
 pub record Found (w d high : ℕ) (side : Side) (words : List ℕ) (codes : List ℤ) : Type 0 where

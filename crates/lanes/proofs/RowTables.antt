@@ -13,7 +13,7 @@ use Rattle.codes.specs.declared.facts.Facts.{Facts}
 use Rattle.kernels.specs.Answers.{stepGain, rowAnswer}
 use Rattle.kernels.specs.Meanings.{Stepped, Drained}
 use Rattle.kernels.specs.Tables.{tableMeans}
-use Rattle.kernels.specs.Told.{StepAsked}
+use Rattle.kernels.specs.Allowed.{StepAllowed}
 use Rattle.kernels.proofs.Tables.{table-set, table-fill, table-stepped, table-drained, row-there}
 use Rattle.lanes.specs.Lanes.{readLane}
 use Rattle.lanes.specs.Words.{unpackedLanes}
@@ -41,7 +41,7 @@ module _ {R : Type 0} (empty : R) (steps accumulator : R → ℕ) (f : Facts) (w
         (tableMeans empty total steps f rows) (tableMeans empty total steps f (set rows row new))
 
   pub step-table : (bits v : ℕ) → Kept bits f w d x y → w ≡ v → (rows : List R) → ((j : ℕ) → Holds (getD rows j empty)) → (row : ℕ) (new : R) (weights activations : List ℕ)
-      → row < length rows → StepAsked (unpackedLanes w (f .shape)) f row (steps (getD rows row empty)) weights activations → steps new ≡ steps (getD rows row empty) + 1
+      → row < length rows → StepAllowed (unpackedLanes w (f .shape)) f row (steps (getD rows row empty)) weights activations → steps new ≡ steps (getD rows row empty) + 1
       → accumulator new ≡ (accumulator (getD rows row empty) + (getD weights 0 0 * getD activations 0 0) % 2 ^ bits) % 2 ^ bits
       → TableStepped v rows row new weights activations
   step-table bits v k e rows holds row new weights activations there asked es ea =

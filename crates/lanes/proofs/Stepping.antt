@@ -15,7 +15,7 @@ use Rattle.codes.specs.declared.facts.Facts.{Facts}
 use Rattle.kernels.specs.declared.refusal.StepRefusal.{StepRefusal}
 use Rattle.kernels.specs.Groups.{dot}
 use Rattle.kernels.specs.Answers.{stepGain, totalAfter, stepsAfter}
-use Rattle.kernels.specs.Told.{StepAsked}
+use Rattle.kernels.specs.Allowed.{StepAllowed}
 use Rattle.lanes.specs.Lanes.{readLane}
 use Rattle.lanes.specs.Words.{isWord, codesIn, unpackedLanes, rep}
 use Rattle.lanes.specs.Rows.{ShapeFits, mostOf, belowLane, RowHolds}
@@ -74,7 +74,7 @@ next-plain bits w d x y h steps acc steps′ acc′ v a gain l fits lane hv ha g
     }
 
 next-found : (bits : ℕ) (f : Facts) (w d x y : ℕ) → Kept bits f w d x y
-    → (row steps acc steps′ acc′ : ℕ) (weights activations : List ℕ) → StepAsked (unpackedLanes w (f .shape)) f row steps weights activations
+    → (row steps acc steps′ acc′ : ℕ) (weights activations : List ℕ) → StepAllowed (unpackedLanes w (f .shape)) f row steps weights activations
     → RowHolds w d (mostOf d x y) (f .interval) steps acc → steps′ ≡ steps + 1
     → acc′ ≡ (acc + (getD weights 0 0 * getD activations 0 0) % 2 ^ bits) % 2 ^ bits
     → NextRow w d (mostOf d x y) (f .interval) (stepGain (unpackedLanes w (f .shape)) f row steps weights activations) steps acc steps′ acc′
@@ -90,7 +90,7 @@ next-found bits f w d x y k row steps acc steps′ acc′ weights activations as
 
 -- with the gain at a width by another name
 pub next-row : (bits : ℕ) (f : Facts) (w v d x y : ℕ) → Kept bits f w d x y → w ≡ v
-    → (row steps acc steps′ acc′ : ℕ) (weights activations : List ℕ) → StepAsked (unpackedLanes w (f .shape)) f row steps weights activations
+    → (row steps acc steps′ acc′ : ℕ) (weights activations : List ℕ) → StepAllowed (unpackedLanes w (f .shape)) f row steps weights activations
     → RowHolds w d (mostOf d x y) (f .interval) steps acc → steps′ ≡ steps + 1
     → acc′ ≡ (acc + (getD weights 0 0 * getD activations 0 0) % 2 ^ bits) % 2 ^ bits
     → NextRow w d (mostOf d x y) (f .interval) (stepGain (unpackedLanes v (f .shape)) f row steps weights activations) steps acc steps′ acc′

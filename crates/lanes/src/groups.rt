@@ -9,7 +9,7 @@ ghost use Rattle.std.specs.Results.{isOk};
 ghost use Rattle.std.specs.Vec.{made};
 ghost use Rattle.kernels.specs.Groups.{filled};
 ghost use Rattle.kernels.specs.Answers.{groupAnswer, codeAnswer, stepAnswer, stepGain};
-ghost use Rattle.kernels.specs.Told.{StepAsked};
+ghost use Rattle.kernels.specs.Allowed.{StepAllowed};
 ghost use Rattle.lanes.specs.Words.{packedLanes, unpackedLanes, isPacking};
 ghost use Rattle.lanes.specs.Rows.{ShapeFits};
 use crate::lanes::Lanes;
@@ -74,7 +74,7 @@ impl Lanes {
     ) -> Result<(), StepRefusal>
         requires { ⌜ ShapeFits (now facts .shape) (now self .depth) (now self .«weight_size») (now self .«activation_size») ⌝ }
         ensures answer { λ r. ⌜ ((width : ℕ) → now (self .entry) .width ≡ width → r ≡ stepAnswer (stepGain (unpackedLanes width (now (facts .entry) .shape)) (now (facts .entry)) row steps (now (weights .entry)) (now (activations .entry)))) ⌝ }
-        ensures yes { λ r. ⌜ made r (λ _. StepAsked (unpackedLanes (now (self .entry) .width) (now (facts .entry) .shape)) (now (facts .entry)) row steps (now (weights .entry)) (now (activations .entry))) ⌝ }
+        ensures yes { λ r. ⌜ made r (λ _. StepAllowed (unpackedLanes (now (self .entry) .width) (now (facts .entry) .shape)) (now (facts .entry)) row steps (now (weights .entry)) (now (activations .entry))) ⌝ }
     {
         ask_step(
             row < 64,

@@ -4,7 +4,7 @@ ghost use Prim.Native.Nat.{ℕ, _*_, _^_, _<_, _≤_};
 ghost use lib.ListN.{getD};
 ghost use Rattle.std.specs.Vec.{made};
 ghost use Rattle.kernels.specs.Answers.{stepAnswer, stepGain};
-ghost use Rattle.kernels.specs.Told.{StepAsked};
+ghost use Rattle.kernels.specs.Allowed.{StepAllowed};
 ghost use Rattle.plans.specs.declared.kind.Kind.the-variants.{P1 as Kind1};
 ghost use Rattle.plans.specs.Lanes.{laneWidth};
 ghost use Rattle.plans.specs.Questions.{GoodDepth};
@@ -119,7 +119,7 @@ impl P1 {
     // The questions of a step, in their order.
     fn ask(&self, row: usize, weights: &[u16], activations: &[u16]) -> Result<(), StepRefusal>
         ensures answer { λ r. ⌜ r ≡ stepAnswer (stepGain (unpackedLanes (p1Width (now (self .entry) .facts .shape)) (now (self .entry) .facts .shape)) (now (self .entry) .facts) row (getD (now (self .entry) .rows) row emptyP1 .steps) (now (weights .entry)) (now (activations .entry))) ⌝ }
-        ensures yes { λ r. ⌜ made r (λ _. StepAsked (unpackedLanes (now (self .entry) .lanes .width) (now (self .entry) .facts .shape)) (now (self .entry) .facts) row (getD (now (self .entry) .rows) row emptyP1 .steps) (now (weights .entry)) (now (activations .entry))) ⌝ }
+        ensures yes { λ r. ⌜ made r (λ _. StepAllowed (unpackedLanes (now (self .entry) .lanes .width) (now (self .entry) .facts .shape)) (now (self .entry) .facts) row (getD (now (self .entry) .rows) row emptyP1 .steps) (now (weights .entry)) (now (activations .entry))) ⌝ }
     {
         self.lanes.ask_step(
             &self.facts,

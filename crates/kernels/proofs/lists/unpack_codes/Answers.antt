@@ -8,7 +8,7 @@ use Rattle.codes.specs.declared.facts.Facts.{Facts}
 use Rattle.codes.specs.declared.shape.Shape.{Shape}
 use Rattle.kernels.specs.declared.refusal.UnpackRefusal.{UnpackRefusal}
 use Rattle.kernels.proofs.ListSizes.{zero-within}
-use Rattle.kernels.proofs.UnpackedLists.{sizesAnswer, sizes-refuse, sizes-pass, Told, told-refused, told-read}
+use Rattle.kernels.proofs.UnpackedLists.{sizesAnswer, sizes-refuse, sizes-pass, ListUnpacked, unpack-refused, unpack-read}
 use Rattle.kernels.proofs.lists.unpack_codes.Needs as need
 
 pub returns-in-Break-may-unpack : need.returns-in-Break-may-unpack
@@ -25,9 +25,9 @@ returns-in-Break-may-unpack g c =
     let p = err-from-errBy result (c .from-residual .ensures .1) in
     let P : Facts → Type 0 = λ f. Err refusal ≡ sizesAnswer (f .shape) side (length codes) words in
     let refused = λ (s : g .K·Kernel .sound k). sizes-refuse U S side (length codes) words refusal (subst P (c .facts-facts .ensures s) (c .in-Break-may-unpack .ensures tt)) in
-    let told : (s : g .K·Kernel .sound k) → Told (g .K·Kernel .packed S) U S side (g .K·Kernel·met .packs k s) (g .K·Kernel·met .unpacks k s) (zero-within S side (F .«shape_rules»)) (F .«shape_rules» .2 .0) (length codes) words codes codes result =
-    λ s. told-refused (g .K·Kernel .packed S) U S side (g .K·Kernel·met .packs k s) (g .K·Kernel·met .unpacks k s) (zero-within S side (F .«shape_rules»)) (F .«shape_rules» .2 .0) (length codes) words codes result refusal (p .1 ∙ ap Err (p .2)) (refused s) in
-    record { answer = λ s. told s .answer; after = λ s. told s .after; again = λ s. told s .again }
+    let known : (s : g .K·Kernel .sound k) → ListUnpacked (g .K·Kernel .packed S) U S side (g .K·Kernel·met .packs k s) (g .K·Kernel·met .unpacks k s) (zero-within S side (F .«shape_rules»)) (F .«shape_rules» .2 .0) (length codes) words codes codes result =
+    λ s. unpack-refused (g .K·Kernel .packed S) U S side (g .K·Kernel·met .packs k s) (g .K·Kernel·met .unpacks k s) (zero-within S side (F .«shape_rules»)) (F .«shape_rules» .2 .0) (length codes) words codes result refusal (p .1 ∙ ap Err (p .2)) (refused s) in
+    record { answer = λ s. known s .answer; after = λ s. known s .after; again = λ s. known s .again }
 
 pub returns-in-Break-check-groups : need.returns-in-Break-check-groups
 returns-in-Break-check-groups g c =
@@ -45,9 +45,9 @@ returns-in-Break-check-groups g c =
     let refused =
     λ (s : g .K·Kernel .sound k).
     sizes-pass U S side (length codes) words (Err refusal) (subst P (c .facts-facts .ensures s) (c .in-Continue-may-unpack .ensures tt)) (c .in-Break-check-groups .ensures tt s (c .facts-facts .ensures s)) in
-    let told : (s : g .K·Kernel .sound k) → Told (g .K·Kernel .packed S) U S side (g .K·Kernel·met .packs k s) (g .K·Kernel·met .unpacks k s) (zero-within S side (F .«shape_rules»)) (F .«shape_rules» .2 .0) (length codes) words codes codes result =
-    λ s. told-refused (g .K·Kernel .packed S) U S side (g .K·Kernel·met .packs k s) (g .K·Kernel·met .unpacks k s) (zero-within S side (F .«shape_rules»)) (F .«shape_rules» .2 .0) (length codes) words codes result refusal (p .1 ∙ ap Err (p .2)) (refused s) in
-    record { answer = λ s. told s .answer; after = λ s. told s .after; again = λ s. told s .again }
+    let known : (s : g .K·Kernel .sound k) → ListUnpacked (g .K·Kernel .packed S) U S side (g .K·Kernel·met .packs k s) (g .K·Kernel·met .unpacks k s) (zero-within S side (F .«shape_rules»)) (F .«shape_rules» .2 .0) (length codes) words codes codes result =
+    λ s. unpack-refused (g .K·Kernel .packed S) U S side (g .K·Kernel·met .packs k s) (g .K·Kernel·met .unpacks k s) (zero-within S side (F .«shape_rules»)) (F .«shape_rules» .2 .0) (length codes) words codes result refusal (p .1 ∙ ap Err (p .2)) (refused s) in
+    record { answer = λ s. known s .answer; after = λ s. known s .after; again = λ s. known s .again }
 
 pub returns : need.returns
 returns g c =
@@ -59,8 +59,8 @@ returns g c =
     let codes = c .args .codes .now in
     let U = g .K·Kernel .unpacked S in
     let P : Facts → Type 0 = λ f. Ok tt ≡ sizesAnswer (f .shape) side (length codes) words in
-    let told : (s : g .K·Kernel .sound k) → Told (g .K·Kernel .packed S) U S side (g .K·Kernel·met .packs k s) (g .K·Kernel·met .unpacks k s) (zero-within S side (F .«shape_rules»)) (F .«shape_rules» .2 .0) (length codes) words codes (c .read-groups .last .codes) (Ok tt) =
+    let known : (s : g .K·Kernel .sound k) → ListUnpacked (g .K·Kernel .packed S) U S side (g .K·Kernel·met .packs k s) (g .K·Kernel·met .unpacks k s) (zero-within S side (F .«shape_rules»)) (F .«shape_rules» .2 .0) (length codes) words codes (c .read-groups .last .codes) (Ok tt) =
     λ s.
-    told-read (g .K·Kernel .packed S) U S side (g .K·Kernel·met .packs k s) (g .K·Kernel·met .unpacks k s) (zero-within S side (F .«shape_rules»)) (F .«shape_rules» .2 .0) (length codes) words codes (c .read-groups .last .codes) (subst P (c .facts-facts .ensures s) (c .in-Continue-may-unpack .ensures tt))
+    unpack-read (g .K·Kernel .packed S) U S side (g .K·Kernel·met .packs k s) (g .K·Kernel·met .unpacks k s) (zero-within S side (F .«shape_rules»)) (F .«shape_rules» .2 .0) (length codes) words codes (c .read-groups .last .codes) (subst P (c .facts-facts .ensures s) (c .in-Continue-may-unpack .ensures tt))
     (c .in-Continue-check-groups .ensures tt s (c .facts-facts .ensures s)) (c .read-groups .ensures s (c .facts-facts .ensures s)) in
-    record { answer = λ s. told s .answer; after = λ s. told s .after; again = λ s. told s .again }
+    record { answer = λ s. known s .answer; after = λ s. known s .after; again = λ s. known s .again }

@@ -2,7 +2,7 @@ use Prim.Native.Nat.{ℕ}
 use mathlib.Core.Path.{ap, subst, _∙_}
 use Rattle.std.specs.Vec.{made}
 use Rattle.kernels.specs.Answers.{stepAnswer, stepGain}
-use Rattle.kernels.specs.Told.{StepAsked}
+use Rattle.kernels.specs.Allowed.{StepAllowed}
 use Rattle.lanes.specs.declared.p2_row.P2Row.{P2Row}
 use Rattle.lanes.specs.Lanes.{p2Width}
 use Rattle.lanes.specs.Words.{unpackedLanes}
@@ -16,6 +16,6 @@ returns c =
     record {
       answer = c .ask-step .ensures .answer (p2Width s) (k .«width_rule»)
           ∙ ap (λ (n : ℕ). stepAnswer (stepGain (unpackedLanes (p2Width (c .args .self .now .facts .shape)) (c .args .self .now .facts .shape)) (c .args .self .now .facts) (c .args .row) n (c .args .weights .now) (c .args .activations .now))) steps;
-      yes = subst (λ (n : ℕ). made (c .ask-step .result) (λ _. StepAsked (unpackedLanes (c .args .self .now .lanes .width) (c .args .self .now .facts .shape)) (c .args .self .now .facts) (c .args .row) n (c .args .weights .now) (c .args .activations .now)))
+      yes = subst (λ (n : ℕ). made (c .ask-step .result) (λ _. StepAllowed (unpackedLanes (c .args .self .now .lanes .width) (c .args .self .now .facts .shape)) (c .args .self .now .facts) (c .args .row) n (c .args .weights .now) (c .args .activations .now)))
           steps (c .ask-step .ensures .yes);
     }
