@@ -60,7 +60,7 @@ impl Lanes {
     {
         let mut word = 0u32;
         for (place, code) in codes.iter().enumerate() {
-            word += bits_of(*code) << (self.width * self.lane(side, place as u32));
+            word += unsigned(*code) << (self.width * self.lane(side, place as u32));
         }
         word as u16
     }
@@ -141,8 +141,8 @@ fn lane_of(word: u32, width: u32, lane: u32) -> u32
     (word >> (width * lane)) & ((1u32 << width) - 1)
 }
 
-// The bits of a code that is at least 0.
-fn bits_of(code: i16) -> u32
+// A code that is at least 0, as a number without sign.
+fn unsigned(code: i16) -> u32
     requires { ⌜ pos 0 ≤ℤ code ⌝ }
     ensures { λ r. ⌜ pos r ≡ code ⌝ }
 {

@@ -15,18 +15,18 @@ use Rattle.lanes.proofs.Reading.{lane-fits}
 use Rattle.lanes.proofs.Sizes.{sizeIn, size-fits}
 use Rattle.lanes.proofs.lanes.Lanes.word.Needs as need
 
-pub bits-of-requires : need.bits-of-requires
-bits-of-requires c κs =
+pub unsigned-requires : need.unsigned-requires
+unsigned-requires c κs =
     let fe : SFits w16 (getD (c .args .codes .now) (c .loop-place .place) (pos 0)) = search needs in
     simp toZ-ofZ (all-getD (Within (bitEnds (sizeIn (c .args .self .now) (c .args .side)))) (c .args .codes .now) (c .loop-place .place) (pos 0) (c .loop-place-test .taken) (c .pre .within) .0)
 
 turn : (c : need.After-lane)
-    → Turn (c .args .self .now .width) (c .args .self .now .depth) (c .args .side) (c .args .codes .now) (c .loop-place .place) (c .loop-place .word) (c .bits-of .result) (c .lane .result)
+    → Turn (c .args .self .now .width) (c .args .self .now .depth) (c .args .side) (c .args .codes .now) (c .loop-place .place) (c .loop-place .word) (c .unsigned .result) (c .lane .result)
 turn c =
     let l = c .args .self .now in
     let fe : SFits w16 (getD (c .args .codes .now) (c .loop-place .place) (pos 0)) = search needs in
-    let code : pos (c .bits-of .result) ≡ getD (c .args .codes .now) (c .loop-place .place) (pos 0) = simp toZ-ofZ at (c .bits-of .ensures) in
-    word-turn (l .width) (l .depth) (sizeIn l (c .args .side)) (c .args .side) (c .args .codes .now) (c .loop-place .place) (c .loop-place .word) (c .bits-of .result) (c .lane .result)
+    let code : pos (c .unsigned .result) ≡ getD (c .args .codes .now) (c .loop-place .place) (pos 0) = simp toZ-ofZ at (c .unsigned .ensures) in
+    word-turn (l .width) (l .depth) (sizeIn l (c .args .side)) (c .args .side) (c .args .codes .now) (c .loop-place .place) (c .loop-place .word) (c .unsigned .result) (c .lane .result)
     (l .«depth_rule» .0) (size-fits l (c .args .side)) (c .pre .count) (c .pre .within) (c .loop-place-test .taken) code (c .lane .ensures) (c .loop-place .inv)
 
 pub shl-word : need.shl-word
