@@ -1,5 +1,5 @@
 -- The rules of a shape and of what goes with it.
-use Rattle.std.specs.Prelude.{ℕ, ◌-◌, ◌*◌, ◌^◌, ◌≤◌, List, length, ℤ, pos, neg_ℤ, ◌≤ℤ◌}
+use Rattle.std.specs.Prelude.{ℕ, ◌-◌, ◌*◌, ◌^◌, ◌≤◌, List, length, pos, neg_ℤ}
 use Rattle.std.specs.List.{AllByRecursion as All}
 use Rattle.codes.specs.declared.ends.Ends.{Ends}
 use Rattle.codes.specs.declared.shape.Shape.{Shape}

@@ -1,4 +1,6 @@
 // The console: a text line in, a text line out. It reads standard input to its end.
+#![tactic(auto)]
+
 mod fault;
 mod kernel_line;
 mod plan_line;

@@ -1,4 +1,6 @@
 // The worked figures of the rules, as one statement.
+#![tactic(auto)]
+
 ghost use Rattle.figures.specs.Figures.{Figures, WordFigures};
 
 // Every worked figure holds, of the definitions that the contracts use.

@@ -1,4 +1,6 @@
 // Kernels: what a kernel means, what its calls answer, and what is written once over any kernel.
+#![tactic(auto)]
+
 pub mod kernel;
 pub mod lists;
 pub mod planned;

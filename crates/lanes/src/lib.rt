@@ -1,4 +1,6 @@
 // Kernels that pack a group of codes into the lanes of one word, so that one multiplication adds up all their products.
+#![tactic(auto)]
+
 mod groups;
 mod lanes;
 pub mod p1;

@@ -1,11 +1,10 @@
 -- The lane of each kind as one inequality: the steps times the most that one group adds, against the room of the lane.
-use Rattle.std.proofs.Common.{◌≡◌, ℕ, ◌+◌, ◌-◌, ◌*◌, ◌/◌, ◌^◌, ◌<◌, ◌≤◌, List, length, get_or, replicate, ℤ, pos, neg_ℤ, ◌≤ℤ◌, refl, ap, inl, inr, div-lt_iff_lt-mul, le-div_iff_mul-le, arith}
+use Rattle.std.proofs.Common.{◌≡◌, ℕ, ◌-◌, ◌*◌, ◌/◌, ◌^◌, ◌<◌, ◌≤◌, List, length, get_or, replicate, ℤ, pos, neg_ℤ, ◌≤ℤ◌, refl, ap, inl, inr, div-lt_iff_lt-mul, le-div_iff_mul-le, arith}
 use lib.ListN.{length-replicate}
 use Rattle.std.specs.List.{AllByRecursion as All}
 use Rattle.std.proofs.lemmas.Int.{ints}
 use Rattle.std.proofs.lemmas.Bool.{cases_lt}
 use Rattle.std.proofs.ByRecursion.{All-get_or}
-use Rattle.codes.specs.Codes.{Between}
 use Rattle.codes.specs.Sums.{Pair, product, sum_of}
 use Rattle.codes.specs.Shapes.{PairWithin}
 use Rattle.codes.proofs.Extremes.{sum_most, sum_least, sum_up, all_replicate, corner_most, corner_least}

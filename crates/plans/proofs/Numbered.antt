@@ -1,5 +1,5 @@
 -- The answer to a request whose kind comes as a number is that of the kind.
-use Rattle.std.proofs.Common.{◌≡◌, ℕ, Ok, Err, Result, sym, refl, ap, ◌∙◌, subst, arith, MatchResult}
+use Rattle.std.proofs.Common.{◌≡◌, ℕ, Ok, Err, Result, sym, refl, ap, ◌∙◌, subst, arith}
 use Rattle.plans.specs.declared.kind.Kind.{Kind}
 use Rattle.plans.specs.declared.kind.Kind.TheVariants.{P1, P2, Planes, Split}
 use Rattle.plans.specs.declared.any_plan.AnyPlan.{AnyPlan}

@@ -1,7 +1,6 @@
 -- The 32-bit sum as two inequalities: longest times the extreme product of two distances from the zero points.
-use Rattle.std.proofs.Common.{◌≡◌, ℕ, ◌+◌, ◌*◌, ◌^◌, ◌<◌, ◌≤◌, max, Bool, true, false, ltb, leb, ◌⊎◌, List, length, replicate, ℤ, pos, ◌-ℤ◌, neg_ℤ, ◌≤ℤ◌, MatchBool, refl, ap, inl, inr, mul-le-mul_right, arith}
+use Rattle.std.proofs.Common.{◌≡◌, ℕ, ◌+◌, ◌*◌, ◌^◌, ◌<◌, ◌≤◌, max, Bool, true, false, ltb, leb, ◌⊎◌, length, replicate, ℤ, pos, ◌-ℤ◌, neg_ℤ, ◌≤ℤ◌, MatchBool, refl, ap, inl, inr, mul-le-mul_right, arith}
 use lib.ListN.{length-replicate}
-use Rattle.std.specs.List.{AllByRecursion as All}
 use Rattle.std.proofs.lemmas.Int.{ints}
 use Rattle.std.proofs.lemmas.Bool.{cases_lt, leb-true, leb-false, le-ltb}
 use Rattle.codes.specs.declared.ends.Ends.{Ends}
@@ -12,7 +11,7 @@ use Rattle.codes.specs.Sums.{Pair, term, exact_sum}
 use Rattle.codes.specs.Shapes.{PairWithin, ZerosWithin, SumOverflows}
 use Rattle.codes.proofs.Extremes.{sum_most, sum_least, sum_up, sum_down, all_replicate, corner_most, corner_least, neg_neg, neg_pos, pos_neg}
 use Rattle.plans.specs.declared.kind.Kind.{Kind}
-use Rattle.plans.specs.declared.kind.Kind.TheVariants.{P1, P2, Planes, Split}
+use Rattle.plans.specs.declared.kind.Kind.TheVariants.{Split}
 use Rattle.plans.specs.declared.request.Request.{Request}
 use Rattle.plans.specs.Bounds.{reach_below, reach_above, rise, fall}
 use Rattle.plans.specs.Questions.{ProductOverflows, BadProduct}

@@ -1,4 +1,6 @@
 // Plans: what is asked for, the questions that are put to it in order, and the plans that pass them all.
+#![tactic(auto)]
+
 pub mod any_plan;
 mod check;
 pub mod checked_plan;

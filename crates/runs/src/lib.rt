@@ -1,4 +1,6 @@
 // Runs over any kernel: fed with columns as they come, settled, read, resumed or cleared.
+#![tactic(auto)]
+
 pub mod calls;
 mod feed;
 mod kept;

@@ -1,4 +1,6 @@
 // The kernel of signed split sums: two signed codes a word, and for each place of a group a lane of its own.
+#![tactic(auto)]
+
 mod bytes;
 mod groups;
 pub mod split;

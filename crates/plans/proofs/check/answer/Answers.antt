@@ -1,4 +1,4 @@
-use Rattle.std.proofs.Common.{◌≡◌, ◌≤◌, refl, subst, arith}
+use Rattle.std.proofs.Common.{◌≤◌, refl, subst, arith}
 use Rattle.codes.specs.declared.shape.Shape.{Shape}
 use Rattle.codes.specs.Shapes.{ZerosWithin, SumOverflows}
 use Rattle.plans.specs.Questions.{steps_asked}
@@ -10,18 +10,18 @@ pub returns : goal.returns
 returns c =
     let k = c.args.kind in
     let r = c.args.request.now in
-    let most = c.most-steps-most.result in
-    let interval = c.interval-taken-interval.result in
+    let most = c.most_steps-most.result in
+    let interval = c.interval_taken-interval.result in
     let s : steps_asked r ≤ most = omega (arith, c.max.ensures) in
-    let same = c.shape-of-shape.ensures.value in
-    let zeros = subst (λ (t : Shape). ZerosWithin t r.zeros) same c.if-not-zeros-fit.ensures in
-    let sum = subst (λ (t : Shape). SumOverflows t r.zeros r.longest → ⊥) same c.if-not-sum-fits.ensures in
+    let same = c.shape_of-shape.ensures.value in
+    let zeros = subst (λ (t : Shape). ZerosWithin t r.zeros) same c.if-not-zeros_fit.ensures in
+    let sum = subst (λ (t : Shape). SumOverflows t r.zeros r.longest → ⊥) same c.if-not-sum_fits.ensures in
     let a : Accepted k r (with_interval r interval) = record {
-      yes = all_yes k r c.if-not-sizes-fit.ensures c.if-not-depth-fits.ensures c.if-not-counts-fit.ensures zeros
-          c.if-not-products-fit.ensures (c.most-steps-most.ensures.holds (steps_asked r) s) sum;
+      yes = all_yes k r c.if-not-sizes_fit.ensures c.if-not-depth_fits.ensures c.if-not-counts_fit.ensures zeros
+          c.if-not-products_fit.ensures (c.most_steps-most.ensures.holds (steps_asked r) s) sum;
       rest = refl;
-      asked = c.interval-taken-interval.ensures.asked;
-      left = λ z. longest k r most interval (c.interval-taken-interval.ensures.left z) (omega arith) c.most-steps-most.ensures.holds c.most-steps-most.ensures.breaks;
+      asked = c.interval_taken-interval.ensures.asked;
+      left = λ z. longest k r most interval (c.interval_taken-interval.ensures.left z) (omega arith) c.most_steps-most.ensures.holds c.most_steps-most.ensures.breaks;
     } in
     let rules = accepted_rules k r (with_interval r interval) a in
     record { answer = a; ranges = rules.ranges; codes = rules.codes; lane = rules.lane }

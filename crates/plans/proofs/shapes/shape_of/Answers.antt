@@ -8,5 +8,5 @@ use Rattle.plans.proofs.shapes.shape_of.Goals as goal
 pub returns : goal.returns
 returns c =
     let e : ◌≡◌ {A = Shape} _ (shape_of c.args.kind c.args.request.now) =
-    rw (c.ends-of.ensures, c.ends-of-2.ensures, c.group-size.ensures, c.group-words.ensures, c.group-words-2.ensures) in
+    rw (c.ends_of.ensures, c.ends_of-2.ensures, c.group_size.ensures, c.group_words.ensures, c.group_words-2.ensures) in
     record { value = e; rules = subst ShapeRules (sym e) (shape_rules_hold c.args.kind c.args.request.now c.requires.sizes c.requires.depth) }
