@@ -1,10 +1,9 @@
 -- What a kernel means, and what its calls do to that.
 use Rattle.std.specs.Prelude.{◌≡◌, ℕ, cond, List, ℤ, pos, Result, ◌≢◌, nat_lt}
 use Rattle.codes.specs.declared.facts.Facts.{Facts}
-use Rattle.kernels.specs.declared.refusal.RowRefusal.{RowRefusal}
 use Rattle.kernels.specs.declared.refusal.StepRefusal.{StepRefusal}
 use Rattle.kernels.specs.Groups.{Unpacking}
-use Rattle.kernels.specs.Answers.{row_answer, step_gain, step_answer, total_after, steps_after}
+use Rattle.kernels.specs.Answers.{step_gain, total_after, steps_after}
 
 -- fixed facts and, for each of 64 rows, a total and a count of steps
 pub record Meaning : Type 0 where

@@ -5,22 +5,22 @@ use Rattle.codes.specs.declared.shape.Shape.{Shape}
 use Rattle.kernels.proofs.GroupReads.{packing_length, zeros_all, zeros_fail, none_read}
 use Rattle.kernels.proofs.lists.packs_codes.Goals as goal
 
-pub returns-then-is-err : goal.returns-then-is-err
-returns-then-is-err g c = λ s m.
+pub returns-then-is_err : goal.returns-then-is_err
+returns-then-is_err g c = λ s m.
     let k = c.args.kernel.now in
     let F : Facts = (g.K.Kernel.means k).facts in
     let side = c.args.side in
     let words = c.args.words.now in
-    none_read c.read-code.result F.shape side (length words) (g.K.Kernel.unpacked F.shape side words) c.args.used (c.read-code.ensures s) c.if-is-err.ensures.value F.shape_rules.2.0
+    none_read c.read_code.result F.shape side (length words) (g.K.Kernel.unpacked F.shape side words) c.args.used (c.read_code.ensures s) c.if-is_err.ensures.value F.shape_rules.2.0
     (packing_length (g.K.Kernel.packed F.shape) (g.K.Kernel.unpacked F.shape) F.shape side (g.met.K.Kernel.packs k s) (g.met.K.Kernel.unpacks k s) words)
 
-pub returns-then-not-reads-zero : goal.returns-then-not-reads-zero
-returns-then-not-reads-zero g c = λ s m.
+pub returns-then-not-reads_zero : goal.returns-then-not-reads_zero
+returns-then-not-reads_zero g c = λ s m.
     let k = c.args.kernel.now in
     let S : Shape = (g.K.Kernel.means k).facts.shape in
     let side = c.args.side in
     let words = c.args.words.now in
-    zeros_fail c.read-code-in-loop-place.result S side (length words) (g.K.Kernel.unpacked S side words) c.args.used c.loop-place.place (c.read-code-in-loop-place.ensures s) c.if-not-reads-zero.ensures
+    zeros_fail c.read_code-in-loop-place.result S side (length words) (g.K.Kernel.unpacked S side words) c.args.used c.loop-place.place (c.read_code-in-loop-place.ensures s) c.if-not-reads_zero.ensures
     (omega (arith, c.loop-place.auto.place)) (omega (arith, m, c.loop-place-test.true))
     (packing_length (g.K.Kernel.packed S) (g.K.Kernel.unpacked S) S side (g.met.K.Kernel.packs k s) (g.met.K.Kernel.unpacks k s) words)
 

@@ -11,22 +11,22 @@ use Rattle.kernels.proofs.lists.read_groups.Goals as goal
 pub loop-group-init : goal.loop-group-init
 loop-group-init g c = λ s m w all h. read_none _ _ _ _ _ c.args.words.now c.args.codes.now all h
 
-pub slice-bounds-part-end : goal.slice-bounds-part-end
-slice-bounds-part-end g c =
-    let p = part_ends c.loop-group.group c.words-width.result c.groups-for-group-end.result c.loop-group-test.true in
-    let l = words_exact c.args.facts c.args.side (length c.args.codes.now) c.groups-for-group-end.result c.words-width.result (length c.args.words.now) c.requires.exact c.groups-for-group-end.ensures.value c.words-width.ensures in
+pub slice_bounds-part-end : goal.slice_bounds-part-end
+slice_bounds-part-end g c =
+    let p = part_ends c.loop-group.group c.words-width.result c.groups_for-group-end.result c.loop-group-test.true in
+    let l = words_exact c.args.facts c.args.side (length c.args.codes.now) c.groups_for-group-end.result c.words-width.result (length c.args.words.now) c.requires.exact c.groups_for-group-end.ensures.value c.words-width.ensures in
     omega (arith, p, l)
 
-pub slice-bounds-read-group-count : goal.slice-bounds-read-group-count
-slice-bounds-read-group-count g c =
+pub slice_bounds-read_group-count : goal.slice_bounds-read_group-count
+slice_bounds-read_group-count g c =
     let f = c.args.facts in
-    let h = group_starts c.loop-group.group f.shape.group (length c.args.codes.now) f.shape_rules.2.0 (omega (arith, c.loop-group-test.true, c.groups-for-group-end.ensures.value)) in
+    let h = group_starts c.loop-group.group f.shape.group (length c.args.codes.now) f.shape_rules.2.0 (omega (arith, c.loop-group-test.true, c.groups_for-group-end.ensures.value)) in
     omega (arith, h, c.min-end.ensures)
 
-pub slice-bounds-read-group-start : goal.slice-bounds-read-group-start
-slice-bounds-read-group-start g c =
+pub slice_bounds-read_group-start : goal.slice_bounds-read_group-start
+slice_bounds-read_group-start g c =
     let f = c.args.facts in
-    let h = group_starts c.loop-group.group f.shape.group (length c.args.codes.now) f.shape_rules.2.0 (omega (arith, c.loop-group-test.true, c.groups-for-group-end.ensures.value)) in
+    let h = group_starts c.loop-group.group f.shape.group (length c.args.codes.now) f.shape_rules.2.0 (omega (arith, c.loop-group-test.true, c.groups_for-group-end.ensures.value)) in
     omega (arith, h, c.min-end.ensures)
 
 pub loop-group-preserved : goal.loop-group-preserved
@@ -41,13 +41,13 @@ loop-group-preserved g c = λ s m w all h.
     let n : ℕ = length c.args.codes.now in
     let at : ℕ = c.loop-group.group in
     let words = c.args.words.now in
-    let below : at < groups size n = omega (arith, c.loop-group-test.true, c.groups-for-group-end.ensures.value) in
+    let below : at < groups size n = omega (arith, c.loop-group-test.true, c.groups_for-group-end.ensures.value) in
     let starts : at * size < n = group_starts at size n f.shape_rules.2.0 below in
     let long : length c.loop-group.codes ≡ n = c.loop-group.auto.codes in
     let short : length (take (c.min-end.result - at * size) (drop (at * size) c.loop-group.codes)) ≡ min n (at * size + size) - at * size = simp (length-take, length-drop) (omega (arith, c.min-end.ensures)) in
-    read_more u size width (groups size n) n words at _ c.loop-group.codes c.read-group.new.codes all below starts long (c.read-group.auto.codes ∙ short)
+    read_more u size width (groups size n) n words at _ c.loop-group.codes c.read_group.new.codes all below starts long (c.read_group.auto.codes ∙ short)
     (λ group e. (g.met.K.Kernel.unpacks k s side (take width (drop (at * width) words)) group e).0.full ∙ sym m)
-    (λ group e. c.read-group.ensures s group (ap u (span_is words (at * width) width) ∙ e) (omega (arith, short, m)) ∙ ap (λ i. take i group) short)
+    (λ group e. c.read_group.ensures s group (ap u (span_is words (at * width) width) ∙ e) (omega (arith, short, m)) ∙ ap (λ i. take i group) short)
     (c.loop-group.invariant s m w all h)
 
 pub returns : goal.returns
@@ -62,5 +62,5 @@ returns g c = λ s e all h.
     let words = c.args.words.now in
     let m : size ≡ S.group = size_of c.args.facts (g.K.Kernel.means c.args.kernel.now).facts e in
     let w : width ≡ words_on S side = width_of c.args.facts (g.K.Kernel.means c.args.kernel.now).facts side c.words-width.result c.words-width.ensures e in
-    read_all u size width (groups size n) n words c.loop-group.group c.loop-group.codes all (omega (arith, c.loop-group-test.false, c.groups-for-group-end.ensures.value))
+    read_all u size width (groups size n) n words c.loop-group.group c.loop-group.codes all (omega (arith, c.loop-group-test.false, c.groups_for-group-end.ensures.value))
     (groups_hold size n f.shape_rules.2.0) c.loop-group.auto.codes (c.loop-group.invariant s m w all (list_at u size width S.group (words_on S side) n words m w ∙ h))

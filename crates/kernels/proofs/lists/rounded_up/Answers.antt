@@ -6,5 +6,5 @@ use Rattle.kernels.proofs.lists.rounded_up.Goals as goal
 
 pub returns : goal.returns
 returns c =
-    let value : c.div-ceil.result ≡ groups c.args.size c.args.n = c.div-ceil.ensures ∙ sym (groups_are c.args.size c.args.n c.requires) in
+    let value : c.div_ceil.result ≡ groups c.args.size c.args.n = c.div_ceil.ensures ∙ sym (groups_are c.args.size c.args.n c.requires) in
     record { value = value; few = omega (arith, value, groups_few c.args.size c.args.n c.requires) }

@@ -8,8 +8,8 @@ use Rattle.kernels.proofs.ListSizes.{zero_within}
 use Rattle.kernels.proofs.UnpackedLists.{sizes_answer, sizes_refuse, sizes_pass, ListUnpacked, unpack_refused, unpack_read}
 use Rattle.kernels.proofs.lists.unpack_codes.Goals as goal
 
-pub returns-in-err-may-unpack : goal.returns-in-err-may-unpack
-returns-in-err-may-unpack g c =
+pub returns-in_err-may_unpack : goal.returns-in_err-may_unpack
+returns-in_err-may_unpack g c =
     let k = c.args.kernel.now in
     let F : Facts = (g.K.Kernel.means k).facts in
     let S : Shape = F.shape in
@@ -17,17 +17,17 @@ returns-in-err-may-unpack g c =
     let words = c.args.words.now in
     let codes = c.args.codes.now in
     let U = g.K.Kernel.unpacked S in
-    let result : Result (Unit {0}) UnpackRefusal = c.from-residual.result in
-    let refusal : UnpackRefusal = c.in-err-may-unpack.field-0.0 in
-    let p = err_from_is_err_and result c.from-residual.ensures.1 in
+    let result : Result (Unit {0}) UnpackRefusal = c.from_residual.result in
+    let refusal : UnpackRefusal = c.in_err-may_unpack.field-0.0 in
+    let p = err_from_is_err_and result c.from_residual.ensures.1 in
     let P : Facts → Type 0 = λ f. Err refusal ≡ sizes_answer f.shape side (length codes) words in
-    let refused = λ (s : g.K.Kernel.sound k). sizes_refuse U S side (length codes) words refusal (subst P (c.facts-facts.ensures s) c.in-err-may-unpack.ensures) in
+    let refused = λ (s : g.K.Kernel.sound k). sizes_refuse U S side (length codes) words refusal (subst P (c.facts-facts.ensures s) c.in_err-may_unpack.ensures) in
     let known : (s : g.K.Kernel.sound k) → ListUnpacked (g.K.Kernel.packed S) U S side (g.met.K.Kernel.packs k s) (g.met.K.Kernel.unpacks k s) (zero_within S side F.shape_rules) F.shape_rules.2.0 (length codes) words codes codes result =
     λ s. unpack_refused (g.K.Kernel.packed S) U S side (g.met.K.Kernel.packs k s) (g.met.K.Kernel.unpacks k s) (zero_within S side F.shape_rules) F.shape_rules.2.0 (length codes) words codes result refusal (p.1 ∙ ap Err p.2) (refused s) in
     record { answer = λ s. (known s).answer; after = λ s. (known s).after; again = λ s. (known s).again }
 
-pub returns-in-err-check-groups : goal.returns-in-err-check-groups
-returns-in-err-check-groups g c =
+pub returns-in_err-check_groups : goal.returns-in_err-check_groups
+returns-in_err-check_groups g c =
     let k = c.args.kernel.now in
     let F : Facts = (g.K.Kernel.means k).facts in
     let S : Shape = F.shape in
@@ -35,13 +35,13 @@ returns-in-err-check-groups g c =
     let words = c.args.words.now in
     let codes = c.args.codes.now in
     let U = g.K.Kernel.unpacked S in
-    let result : Result (Unit {0}) UnpackRefusal = c.from-residual-in-err-check-groups.result in
-    let refusal : UnpackRefusal = c.in-err-check-groups.field-0.0 in
-    let p = err_from_is_err_and result c.from-residual-in-err-check-groups.ensures.1 in
+    let result : Result (Unit {0}) UnpackRefusal = c.from_residual-in_err-check_groups.result in
+    let refusal : UnpackRefusal = c.in_err-check_groups.field-0.0 in
+    let p = err_from_is_err_and result c.from_residual-in_err-check_groups.ensures.1 in
     let P : Facts → Type 0 = λ f. Ok tt ≡ sizes_answer f.shape side (length codes) words in
     let refused =
     λ (s : g.K.Kernel.sound k).
-    sizes_pass U S side (length codes) words (Err refusal) (subst P (c.facts-facts.ensures s) c.in-ok-may-unpack.ensures) (c.in-err-check-groups.ensures s (c.facts-facts.ensures s)) in
+    sizes_pass U S side (length codes) words (Err refusal) (subst P (c.facts-facts.ensures s) c.in_ok-may_unpack.ensures) (c.in_err-check_groups.ensures s (c.facts-facts.ensures s)) in
     let known : (s : g.K.Kernel.sound k) → ListUnpacked (g.K.Kernel.packed S) U S side (g.met.K.Kernel.packs k s) (g.met.K.Kernel.unpacks k s) (zero_within S side F.shape_rules) F.shape_rules.2.0 (length codes) words codes codes result =
     λ s. unpack_refused (g.K.Kernel.packed S) U S side (g.met.K.Kernel.packs k s) (g.met.K.Kernel.unpacks k s) (zero_within S side F.shape_rules) F.shape_rules.2.0 (length codes) words codes result refusal (p.1 ∙ ap Err p.2) (refused s) in
     record { answer = λ s. (known s).answer; after = λ s. (known s).after; again = λ s. (known s).again }
@@ -56,8 +56,8 @@ returns g c =
     let codes = c.args.codes.now in
     let U = g.K.Kernel.unpacked S in
     let P : Facts → Type 0 = λ f. Ok tt ≡ sizes_answer f.shape side (length codes) words in
-    let known : (s : g.K.Kernel.sound k) → ListUnpacked (g.K.Kernel.packed S) U S side (g.met.K.Kernel.packs k s) (g.met.K.Kernel.unpacks k s) (zero_within S side F.shape_rules) F.shape_rules.2.0 (length codes) words codes c.read-groups.new.codes (Ok tt) =
+    let known : (s : g.K.Kernel.sound k) → ListUnpacked (g.K.Kernel.packed S) U S side (g.met.K.Kernel.packs k s) (g.met.K.Kernel.unpacks k s) (zero_within S side F.shape_rules) F.shape_rules.2.0 (length codes) words codes c.read_groups.new.codes (Ok tt) =
     λ s.
-    unpack_read (g.K.Kernel.packed S) U S side (g.met.K.Kernel.packs k s) (g.met.K.Kernel.unpacks k s) (zero_within S side F.shape_rules) F.shape_rules.2.0 (length codes) words codes c.read-groups.new.codes (subst P (c.facts-facts.ensures s) c.in-ok-may-unpack.ensures)
-    (c.in-ok-check-groups.ensures s (c.facts-facts.ensures s)) (c.read-groups.ensures s (c.facts-facts.ensures s)) in
+    unpack_read (g.K.Kernel.packed S) U S side (g.met.K.Kernel.packs k s) (g.met.K.Kernel.unpacks k s) (zero_within S side F.shape_rules) F.shape_rules.2.0 (length codes) words codes c.read_groups.new.codes (subst P (c.facts-facts.ensures s) c.in_ok-may_unpack.ensures)
+    (c.in_ok-check_groups.ensures s (c.facts-facts.ensures s)) (c.read_groups.ensures s (c.facts-facts.ensures s)) in
     record { answer = λ s. (known s).answer; after = λ s. (known s).after; again = λ s. (known s).again }

@@ -3,6 +3,6 @@ use Rattle.std.proofs.Common.{rules}
 use Rattle.kernels.specs.Answers.{step_gain}
 use Rattle.kernels.proofs.product.group_product.Goals as goal
 
-pub returns-in-err-drain : goal.returns-in-err-drain
+pub returns-in_err-drain : goal.returns-in_err-drain
 unfolding step_gain
-returns-in-err-drain g c = search rules
+returns-in_err-drain g c = search rules
