@@ -6,14 +6,14 @@ use Rattle.planes.specs.Transposed.{plane_fits}
 use Rattle.planes.proofs.Loops.{BitTurn, bit_turn, bits_all}
 use Rattle.planes.proofs.words.code_at.Goals as goal
 
-turn : (c : goal.After-bit-in-code-code) → BitTurn c.args.place c.loop-k.k c.args.words.now c.loop-k.code c.bit-in-code-code.result
+turn : (c : goal.After-bit_in_code-code) → BitTurn c.args.place c.loop-k.k c.args.words.now c.loop-k.code c.bit_in_code-code.result
 turn c =
     let few : length c.args.words.now ≤ 16 = omega (arith, c.requires.words) in
-    bit_turn c.args.place c.loop-k.k c.args.words.now c.loop-k.code c.bit-in-code-code.result few c.loop-k-test.true c.bit-in-code-code.ensures c.loop-k.invariant
+    bit_turn c.args.place c.loop-k.k c.args.words.now c.loop-k.code c.bit_in_code-code.result few c.loop-k-test.true c.bit_in_code-code.ensures c.loop-k.invariant
 
-pub overflow-add-code : goal.overflow-add-code
-overflow-add-code c =
-    let small = (turn c).ranges in
+pub overflow_add-code : goal.overflow_add-code
+overflow_add-code c =
+    let small = (turn c).fits in
     search rules
 
 pub loop-k-preserved : goal.loop-k-preserved
@@ -25,8 +25,8 @@ all c = bits_all c.args.place c.loop-k.k c.args.words.now c.loop-k.code c.loop-k
 small : (c : goal.After-loop-k) → c.loop-k.code < 2 ^ hbits w16
 small c = omega (arith, all c, plane_fits c.args.place 8 c.args.words.now c.requires.words)
 
-pub overflow-cast-result : goal.overflow-cast-result
-overflow-cast-result c =
+pub overflow_cast-result : goal.overflow_cast-result
+overflow_cast-result c =
     let s = small c in
     search rules
 

@@ -14,7 +14,7 @@ unsigned-requires c =
     let fe : SFits w16 (get_or c.args.codes.now c.loop-place.place (pos 0)) = search rules in
     simp to_z-of_z (All-get_or (Within (bit_ends 8)) c.args.codes.now c.loop-place.place (pos 0) c.loop-place-test.true c.requires.within).0
 
-turn : (c : goal.After-bit-in-plane-word) → BitTurn c.args.k c.loop-place.place (map nat_abs c.args.codes.now) c.loop-place.word c.bit-in-plane-word.result
+turn : (c : goal.After-bit_in_plane-word) → BitTurn c.args.k c.loop-place.place (map nat_abs c.args.codes.now) c.loop-place.word c.bit_in_plane-word.result
 turn c =
     let fe : SFits w16 (get_or c.args.codes.now c.loop-place.place (pos 0)) = search rules in
     let ns = map nat_abs c.args.codes.now in
@@ -22,12 +22,12 @@ turn c =
     let few : length (map nat_abs c.args.codes.now) ≤ 16 = omega (arith, c.requires.count) in
     let there : c.loop-place.place < length (map nat_abs c.args.codes.now) = omega arith in
     let code : c.unsigned.result ≡ nat_abs (get_or c.args.codes.now c.loop-place.place (pos 0)) = simp to_z-of_z at c.unsigned.ensures in
-    let is = c.bit-in-plane-word.ensures ∙ ap (λ (n : ℕ). bit_at c.args.k n * 2 ^ c.loop-place.place) (code ∙ sym (get_or-map nat_abs c.args.codes.now c.loop-place.place (pos 0))) in
-    bit_turn c.args.k c.loop-place.place ns c.loop-place.word c.bit-in-plane-word.result few there is c.loop-place.invariant
+    let is = c.bit_in_plane-word.ensures ∙ ap (λ (n : ℕ). bit_at c.args.k n * 2 ^ c.loop-place.place) (code ∙ sym (get_or-map nat_abs c.args.codes.now c.loop-place.place (pos 0))) in
+    bit_turn c.args.k c.loop-place.place ns c.loop-place.word c.bit_in_plane-word.result few there is c.loop-place.invariant
 
-pub overflow-add-word : goal.overflow-add-word
-overflow-add-word c =
-    let small = (turn c).ranges in
+pub overflow_add-word : goal.overflow_add-word
+overflow_add-word c =
+    let small = (turn c).fits in
     search rules
 
 pub loop-place-preserved : goal.loop-place-preserved
@@ -38,8 +38,8 @@ all c =
     let end : length (map nat_abs c.args.codes.now) ≤ c.loop-place.place = omega (arith, length-map c.args.codes.now nat_abs) in
     bits_all c.args.k c.loop-place.place (map nat_abs c.args.codes.now) c.loop-place.word end c.loop-place.invariant
 
-pub overflow-cast-result : goal.overflow-cast-result
-overflow-cast-result c =
+pub overflow_cast-result : goal.overflow_cast-result
+overflow_cast-result c =
     let few : length (map nat_abs c.args.codes.now) ≤ 16 = omega (arith, c.requires.count, length-map c.args.codes.now nat_abs) in
     record { fits = omega (arith, all c, plane_fits c.args.k 16 (map nat_abs c.args.codes.now) few) }
 

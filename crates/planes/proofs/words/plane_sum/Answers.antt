@@ -4,15 +4,15 @@ use Rattle.planes.proofs.Loops.{SumTurn, sum_turn, sum_all}
 use Rattle.planes.specs.Packings.{words_below}
 use Rattle.planes.proofs.words.plane_sum.Goals as goal
 
-turn : (c : goal.After-shared-by-sum)
+turn : (c : goal.After-shared_by-sum)
     → SumTurn c.loop-k.sum (plane_sum c.args.weights.now c.args.activations.now)
-    (plane_sum_from (c.loop-k.k + 1) (drop (c.loop-k.k + 1) c.args.weights.now) c.args.activations.now) c.shared-by-sum.result
+    (plane_sum_from (c.loop-k.k + 1) (drop (c.loop-k.k + 1) c.args.weights.now) c.args.activations.now) c.shared_by-sum.result
 turn c =
-    sum_turn c.loop-k.k c.loop-k.sum c.shared-by-sum.result c.args.weights.now c.args.activations.now
-    c.requires.weights c.requires.activations (words_below c.args.weights.now c.type-inv.weights) c.loop-k-test.true c.shared-by-sum.ensures c.loop-k.invariant
+    sum_turn c.loop-k.k c.loop-k.sum c.shared_by-sum.result c.args.weights.now c.args.activations.now
+    c.requires.weights c.requires.activations (words_below c.args.weights.now c.type_inv.weights) c.loop-k-test.true c.shared_by-sum.ensures c.loop-k.invariant
 
-pub overflow-add-sum : goal.overflow-add-sum
-overflow-add-sum c = record { fits = (turn c).ranges }
+pub overflow_add-sum : goal.overflow_add-sum
+overflow_add-sum c = record { fits = (turn c).fits }
 
 pub loop-k-preserved : goal.loop-k-preserved
 loop-k-preserved c = (turn c).next

@@ -7,12 +7,12 @@ turn : (c : goal.After-weighted-sum)
     → SumTurn c.loop-m.sum (shared_from c.args.k 0 c.args.weights c.args.activations.now)
     (shared_from c.args.k (c.loop-m.m + 1) c.args.weights (drop (c.loop-m.m + 1) c.args.activations.now)) c.weighted-sum.result
 turn c =
-    let is = c.weighted-sum.ensures ∙ ap (λ (n : ℕ). n * 2 ^ (c.args.k + c.loop-m.m)) c.ones-shared.ensures.value in
+    let is = c.weighted-sum.ensures ∙ ap (λ (n : ℕ). n * 2 ^ (c.args.k + c.loop-m.m)) c.ones_shared.ensures.value in
     shared_turn c.args.k c.loop-m.m c.args.weights c.loop-m.sum c.weighted-sum.result c.args.activations.now
     c.requires.plane c.requires.activations c.ranges.weights.fits c.loop-m-test.true is c.loop-m.invariant
 
-pub overflow-add-sum : goal.overflow-add-sum
-overflow-add-sum c = record { fits = (turn c).ranges }
+pub overflow_add-sum : goal.overflow_add-sum
+overflow_add-sum c = record { fits = (turn c).fits }
 
 pub loop-m-preserved : goal.loop-m-preserved
 loop-m-preserved c = (turn c).next

@@ -7,7 +7,7 @@ use Rattle.planes.proofs.words.write_planes.Goals as goal
 pub loop-k-preserved : goal.loop-k-preserved
 loop-k-preserved c =
     let there : c.loop-k.k < length c.loop-k.words = omega arith in
-    write_turn c.loop-k.k c.plane-of.result c.loop-k.words (map nat_abs c.args.codes.now) there c.plane-of.ensures c.loop-k.invariant
+    write_turn c.loop-k.k c.plane_of.result c.loop-k.words (map nat_abs c.args.codes.now) there c.plane_of.ensures c.loop-k.invariant
 
 pub returns : goal.returns
 returns c =

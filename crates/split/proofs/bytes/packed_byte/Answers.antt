@@ -5,8 +5,8 @@ use Rattle.std.proofs.lemmas.List.{get_or_past}
 use Rattle.split.specs.Bytes.{InByte, code_byte}
 use Rattle.split.proofs.bytes.packed_byte.Goals as goal
 
-pub byte-of-requires : goal.byte-of-requires
-byte-of-requires c =
+pub byte_of-requires : goal.byte_of-requires
+byte_of-requires c =
     let fits : SFits w16 (get_or c.args.codes.now c.args.place (pos 0)) = search rules in
     simp to_z-of_z (All-get_or InByte c.args.codes.now c.args.place (pos 0) c.if-place-codes.true c.requires)
 

@@ -1,13 +1,13 @@
 use Rattle.split.specs.Packings.{all_bytes, packed_group}
 use Rattle.split.proofs.groups.pack_group.Goals as goal
 
-pub word-of-requires : goal.word-of-requires
-word-of-requires c = all_bytes c.args.shape.now c.requires c.args.side c.args.codes.now c.in-ok-ask-group.ensures.yes.within
+pub word_of-requires : goal.word_of-requires
+word_of-requires c = all_bytes c.args.shape.now c.requires c.args.side c.args.codes.now c.in_ok-ask_group.ensures.yes.within
 
 pub returns : goal.returns
 returns c =
-    let asked = c.in-ok-ask-group.ensures in
+    let asked = c.in_ok-ask_group.ensures in
     record {
       answer = asked.answer;
-      after = packed_group c.args.shape.now c.requires c.args.side c.args.codes.now c.args.words.now c.word-of.result asked.yes.words_are c.word-of.ensures;
+      after = packed_group c.args.shape.now c.requires c.args.side c.args.codes.now c.args.words.now c.word_of.result asked.yes.words_are c.word_of.ensures;
     }

@@ -5,6 +5,6 @@ use Rattle.split.proofs.groups.read_code.Goals as goal
 
 pub returns : goal.returns
 returns c =
-    let code = to_z-of_z w16 c.code_at_is.result (record { sfits = c.code_at_is.type-inv }) ∙ c.code_at_is.ensures in
-    code_read c.args.shape.now c.requires c.args.side c.args.words.now c.args.place c.is-packing-packing.result _
-    c.in-ok-ask-code.ensures.yes c.is-packing-packing.ensures code
+    let code = to_z-of_z w16 c.code_at.result (record { sfits = c.code_at.type_inv }) ∙ c.code_at.ensures in
+    code_read c.args.shape.now c.requires c.args.side c.args.words.now c.args.place c.is_packing-packing.result _
+    c.in_ok-ask_code.ensures.yes c.is_packing-packing.ensures code

@@ -13,9 +13,9 @@ returns c =
     let weights = c.args.weights.now in
     let activations = c.args.activations.now in
     let tested = packing_tested f.shape l.width l.depth l.weight_size l.activation_size c.requires in
-    let packings = c.are-packings.ensures ∙ ap₂ ◌&&◌ (tested Weights weights) (tested Activations activations) in
+    let packings = c.are_packings.ensures ∙ ap₂ ◌&&◌ (tested Weights weights) (tested Activations activations) in
     let answered = step_answered (unpacked_lanes l.width f.shape) f c.args.row c.args.steps weights activations
-    c.lengths-fit.result c.are-packings.result c.may-step.result c.ask-step.result c.ask-step.ensures c.lengths-fit.ensures packings c.may-step.ensures in
+    c.lengths_fit.result c.are_packings.result c.may_step.result c.ask_step.result c.ask_step.ensures c.lengths_fit.ensures packings c.may_step.ensures in
     record {
       answer = λ width e. answered.answer ∙ ap (λ (w : ℕ). step_answer (step_gain (unpacked_lanes w c.args.facts.now.shape) c.args.facts.now c.args.row c.args.steps c.args.weights.now c.args.activations.now)) e;
       yes = answered.found;

@@ -7,7 +7,7 @@ use Rattle.lanes.proofs.lanes.Lanes.pack_group.Goals as goal
 pub word-requires : goal.word-requires
 word-requires c =
     let l = c.args.self.now in
-    let asked = c.in-ok-ask-group.ensures.yes in
+    let asked = c.in_ok-ask_group.ensures.yes in
     record {
       count = omega (arith, asked.count, c.requires.2);
       within = within_size c.args.shape.now l.depth l.weight_size l.activation_size c.requires c.args.side c.args.codes.now asked.within;
@@ -17,7 +17,7 @@ pub returns : goal.returns
 returns c =
     let l = c.args.self.now in
     let shape = c.args.shape.now in
-    let asked = c.in-ok-ask-group.ensures in
+    let asked = c.in_ok-ask_group.ensures in
     record {
       answer = asked.answer;
       after = λ width e. packed_group shape l.width l.depth l.weight_size l.activation_size c.requires c.args.side c.args.codes.now c.args.words.now c.word.result

@@ -22,22 +22,22 @@ turn c =
     word_turn l.width l.depth (size_in l c.args.side) c.args.side c.args.codes.now c.loop-place.place c.loop-place.word c.unsigned.result c.lane.result
     l.depth_rule.0 (size_fits l c.args.side) c.requires.count c.requires.within c.loop-place-test.true code c.lane.ensures c.loop-place.invariant
 
-pub overflow-shl-word : goal.overflow-shl-word
-overflow-shl-word c =
+pub overflow_shl-word : goal.overflow_shl-word
+overflow_shl-word c =
     let l = c.args.self.now in
     let p : c.loop-place.place < c.args.self.now.depth = omega (arith, c.requires.count, c.loop-place-test.true) in
     omega (arith, lane_fits l.width l.depth (size_in l c.args.side) c.args.side c.loop-place.place c.lane.result (size_fits l c.args.side) p c.lane.ensures)
 
-pub overflow-add-word : goal.overflow-add-word
-overflow-add-word c =
+pub overflow_add-word : goal.overflow_add-word
+overflow_add-word c =
     let s = (turn c).small in
     search rules
 
 pub loop-place-preserved : goal.loop-place-preserved
 loop-place-preserved c = (turn c).next
 
-pub overflow-cast-result : goal.overflow-cast-result
-overflow-cast-result c =
+pub overflow_cast-result : goal.overflow_cast-result
+overflow_cast-result c =
     let l = c.args.self.now in
     let s = word_small l.width l.depth (size_in l c.args.side) c.args.side c.args.codes.now l.depth_rule.0 (size_fits l c.args.side) c.requires.count c.requires.within in
     let k : c.loop-place.word < 65536 = omega (arith, c.loop-place.invariant) in

@@ -12,8 +12,8 @@ returns c =
     let s = c.args.self.now.facts.shape in
     let steps = ap (λ (r : P1Row). r.steps) c.record.ensures in
     record {
-      answer = c.ask-step.ensures.answer (p1_width s) k.width_rule
+      answer = c.ask_step.ensures.answer (p1_width s) k.width_rule
           ∙ ap (λ (n : ℕ). step_answer (step_gain (unpacked_lanes (p1_width c.args.self.now.facts.shape) c.args.self.now.facts.shape) c.args.self.now.facts c.args.row n c.args.weights.now c.args.activations.now)) steps;
-      yes = subst (λ (n : ℕ). IfOk c.ask-step.result (λ _. StepAllowed (unpacked_lanes c.args.self.now.lanes.width c.args.self.now.facts.shape) c.args.self.now.facts c.args.row n c.args.weights.now c.args.activations.now))
-          steps c.ask-step.ensures.yes;
+      yes = subst (λ (n : ℕ). IfOk c.ask_step.result (λ _. StepAllowed (unpacked_lanes c.args.self.now.lanes.width c.args.self.now.facts.shape) c.args.self.now.facts c.args.row n c.args.weights.now c.args.activations.now))
+          steps c.ask_step.ensures.yes;
     }

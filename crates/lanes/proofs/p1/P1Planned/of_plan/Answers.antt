@@ -8,18 +8,18 @@ use Rattle.lanes.proofs.p1.P1Planned.of_plan.Goals as goal
 
 pub new-lanes-requires : goal.new-lanes-requires
 new-lanes-requires c =
-    let r = p1_planned c.args.plan c.numbers-numbers.result c.facts-facts.result c.width-of.result c.numbers-numbers.ensures c.facts-facts.ensures c.width-of.ensures in
+    let r = p1_planned c.args.plan c.numbers-numbers.result c.facts-facts.result c.width_of.result c.numbers-numbers.ensures c.facts-facts.ensures c.width_of.ensures in
     record { width = r.narrow; depth = r.depth; weights = r.kept.laid.weights; activations = r.kept.laid.activations }
 
-pub invariant-of-result : goal.invariant-of-result
-invariant-of-result c =
+pub invariant_of-result : goal.invariant_of-result
+invariant_of-result c =
     let n = c.numbers-numbers.result in
     let f = c.facts-facts.result in
     let l = c.new-lanes.result in
     let made = c.new-lanes.ensures in
-    let r = p1_planned c.args.plan c.numbers-numbers.result c.facts-facts.result c.width-of.result c.numbers-numbers.ensures c.facts-facts.ensures c.width-of.ensures in
-    let k = kept_as 16 f c.width-of.result n.depth n.weight_size n.activation_size l.width l.depth l.weight_size l.activation_size r.kept made.width made.depth made.weights made.activations in
-    (made.width ∙ r.width_is, (k.shape, (k.fits, (k.lane, (table_fill empty_p1 (Holds (λ q. q.steps) (λ q. q.accumulator) f l) 64 (holds_none (λ q. q.steps) (λ q. q.accumulator) f l empty_p1 refl refl), tt)))))
+    let r = p1_planned c.args.plan c.numbers-numbers.result c.facts-facts.result c.width_of.result c.numbers-numbers.ensures c.facts-facts.ensures c.width_of.ensures in
+    let k = kept_as 16 f c.width_of.result n.depth n.weight_size n.activation_size l.width l.depth l.weight_size l.activation_size r.kept made.width made.depth made.weights made.activations in
+    record { width_rule = made.width ∙ r.width_is; shape_rule = k.shape; word_rule = k.fits; lane_rule = k.lane; rows_rule = table_fill empty_p1 (Holds (λ q. q.steps) (λ q. q.accumulator) f l) 64 (holds_none (λ q. q.steps) (λ q. q.accumulator) f l empty_p1 refl refl) }
 
 pub returns : goal.returns
 returns c =

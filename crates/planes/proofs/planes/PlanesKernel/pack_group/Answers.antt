@@ -3,10 +3,10 @@ use Rattle.kernels.proofs.ListSizes.{few_words}
 use Rattle.planes.specs.Packings.{within_bytes, packed_filled}
 use Rattle.planes.proofs.planes.PlanesKernel.pack_group.Goals as goal
 
-pub write-planes-requires : goal.write-planes-requires
-write-planes-requires c =
+pub write_planes-requires : goal.write_planes-requires
+write_planes-requires c =
     let k = c.args.self.now in
-    let allowed = c.in-ok-ask-group.ensures.yes in
+    let allowed = c.in_ok-ask_group.ensures.yes in
     let few = few_words k.facts c.args.side (length c.args.words.now) allowed.words_are in
     record {
       words = few;
@@ -17,8 +17,8 @@ write-planes-requires c =
 pub returns : goal.returns
 returns c =
     let k = c.args.self.now in
-    let asked = c.in-ok-ask-group.ensures in
+    let asked = c.in_ok-ask_group.ensures in
     record {
       answer = λ _. asked.answer;
-      after = λ _. c.write-planes.ensures ∙ packed_filled k.facts.shape c.args.side c.args.codes.now (length c.args.words.now) asked.yes.words_are;
+      after = λ _. c.write_planes.ensures ∙ packed_filled k.facts.shape c.args.side c.args.codes.now (length c.args.words.now) asked.yes.words_are;
     }

@@ -5,11 +5,11 @@ use Rattle.split.proofs.RowTables.{Holds, cleared}
 use Rattle.split.proofs.Planning.{planned}
 use Rattle.split.proofs.split.SplitPlanned.of_plan.Goals as goal
 
-pub invariant-of-result : goal.invariant-of-result
-invariant-of-result c =
+pub invariant_of-result : goal.invariant_of-result
+invariant_of-result c =
     let f = c.facts.result in
     let k = planned c.args.plan f c.facts.ensures in
-    (k.shape, (k.lane, (table_fill empty_row (Holds f) 64 (cleared f empty_row refl refl refl), tt)))
+    record { shape_rule = k.shape; lane_rule = k.lane; rows_rule = table_fill empty_row (Holds f) 64 (cleared f empty_row refl refl refl) }
 
 pub returns : goal.returns
 returns c = record { sound = tt; facts = c.facts.ensures; empty = empty_means empty_row row_total (λ r. r.steps) refl refl 64 }
