@@ -10,7 +10,6 @@ use Rattle.plans.specs.declared.refusal.PlanRefusal.TheVariants.{UnknownKind, Si
 use Rattle.plans.specs.Kinds.{shape_of}
 use Rattle.plans.specs.Lanes.{LaneOverflows}
 use Rattle.plans.specs.Questions.{refusal_number, Yes, GoodSizes, GoodDepth, GoodCounts, BadProduct, steps_asked}
-use Rattle.plans.specs.Answers.{Accepted}
 use Rattle.plans.specs.Bounds.{peak, room, rise, fall}
 use Rattle.plans.proofs.LaneBound.{low_most, high_is, lane_holds, lane_breaks, steps_hold, steps_break}
 use Rattle.plans.proofs.SumBound.{sum_holds, sum_breaks_up, products_hold, products_break}

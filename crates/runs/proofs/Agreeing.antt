@@ -7,7 +7,7 @@ use Rattle.std.proofs.lemmas.List.Sorted.{IsPermutation-keeps}
 use Rattle.std.proofs.lemmas.Bool.{cases_eq}
 use Rattle.codes.specs.declared.facts.Facts.{Facts}
 use Rattle.codes.specs.declared.zero_points.ZeroPoints.{ZeroPoints}
-use Rattle.codes.specs.Sums.{Column, sum_of, term, pair_at, row_of, exact_sum}
+use Rattle.codes.specs.Sums.{sum_of, term, pair_at, row_of, exact_sum}
 use Rattle.kernels.specs.Groups.{Unpacking}
 use Rattle.runs.specs.declared.calls.Call.{Call}
 use Rattle.runs.specs.declared.calls.Answer.{Answer}

@@ -1,12 +1,9 @@
 -- From the answers of a kernel to what they say.
-use Rattle.std.proofs.Common.{◌≡◌, ℕ, ◌<◌, ◌≤◌, Bool, true, false, cond, ◌&&◌, eqb, ltb, List, length, ℤ, Some, None, Ok, Err, Option, Result, sym, refl, ap, ◌∙◌, arith}
+use Rattle.std.proofs.Common.{◌≡◌, ℕ, ◌<◌, Bool, true, false, cond, eqb, ltb, List, length, ℤ, Some, None, Ok, Option, sym, refl, ap, ◌∙◌, arith}
 use Rattle.std.proofs.lemmas.Bool.{ltb-true, lt-ltb, eq-eqb, and_from, cond-true, true≢false}
 use Rattle.codes.specs.declared.facts.Facts.{Facts}
-use Rattle.codes.specs.declared.side.Side.{Side}
 use Rattle.codes.specs.declared.side.Side.TheVariants.{Weights, Activations}
 use Rattle.codes.specs.Shapes.{words_on}
-use Rattle.kernels.specs.declared.refusal.RowRefusal.{RowRefusal}
-use Rattle.kernels.specs.declared.refusal.StepRefusal.TheVariants.{Row, Length}
 use Rattle.kernels.specs.Groups.{Packing, Unpacking, Packs, Unpacks}
 use Rattle.kernels.specs.Answers.{ask, row_answer, step_gain, both_dot, gain_of}
 use Rattle.kernels.proofs.GroupReads.{packing_length}

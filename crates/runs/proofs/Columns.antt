@@ -1,18 +1,17 @@
 -- The columns of an accepted feed: what its words pack, and what each group of them gains.
-use Rattle.std.proofs.Common.{◌≡◌, ℕ, zero, suc, ◌+◌, ◌-◌, ◌*◌, ◌<◌, ◌≤◌, List, [], ◌∷◌, ◌++◌, map, length, get_or, take, drop, replicate, ℤ, pos, ◌+ℤ◌, ◌*ℤ◌, Some, None, Ok, Err, Option, Result, sym, refl, ap, ◌∙◌, subst, inl, inr, suc-add, zero-add, add-one, arith}
+use Rattle.std.proofs.Common.{◌≡◌, ℕ, zero, suc, ◌-◌, ◌*◌, ◌<◌, ◌≤◌, List, [], ◌∷◌, ◌++◌, map, length, get_or, take, drop, replicate, ℤ, pos, ◌+ℤ◌, ◌*ℤ◌, Some, None, Ok, Err, Option, Result, sym, refl, ap, ◌∙◌, subst, inl, inr, zero-add, arith}
 use Rattle.std.specs.List.{range_with_len, AllByRecursion as All}
 use Rattle.std.proofs.lemmas.List.FromFn.{length-map-range_with_len, get_or-map-range_with_len}
 use Rattle.std.proofs.ByRecursion.{All-get_or, All-from_get_or}
 use Rattle.std.proofs.lemmas.List.{ext_get_or, get_or-map, length-map, length-take, length-drop, take-map, drop-map}
 use Rattle.std.proofs.lemmas.Bool.{cases_lt}
 use Rattle.codes.specs.declared.facts.Facts.{Facts}
-use Rattle.codes.specs.declared.shape.Shape.{Shape}
 use Rattle.codes.specs.declared.side.Side.{Side}
 use Rattle.codes.specs.declared.side.Side.TheVariants.{Weights, Activations}
 use Rattle.codes.specs.Codes.{Within, groups}
-use Rattle.codes.specs.Shapes.{ends_on, words_on}
-use Rattle.codes.specs.Sums.{Column, Pair, product, pair_at, sum_of}
-use Rattle.kernels.specs.Groups.{Packing, Unpacking, Packs, Unpacks, filled, paired, dot}
+use Rattle.codes.specs.Shapes.{words_on}
+use Rattle.codes.specs.Sums.{Column, sum_of}
+use Rattle.kernels.specs.Groups.{Packing, Unpacking, Packs, Unpacks, filled, dot}
 use Rattle.kernels.specs.Answers.{both_dot}
 use Rattle.kernels.specs.Lists.{words_for, packed_list, unpacked_list, PacksAgain, FirstBad}
 use Rattle.kernels.proofs.ListSizes.{groups_hold, zero_within}
@@ -24,7 +23,7 @@ use Rattle.runs.specs.Stories.{group_of}
 use Rattle.runs.specs.Feeds.{row_words, row_codes, or_else, bad_in, first_bad_row, codes_of, column_at, columns_with, feed_columns, weight_at, feed_answer, ColumnWithin, PacksColumns, RowPacks, FeedPacks}
 use Rattle.runs.specs.Tells.{products, sum_of_weights, sum_of_activations}
 use Rattle.runs.specs.Passes.{group_words, Gains}
-use Rattle.runs.proofs.Checking.{SizesFit, FeedFound, feed_found, refused_at, refused_in}
+use Rattle.runs.proofs.Checking.{FeedFound, feed_found, refused_at, refused_in}
 use Rattle.runs.proofs.Rows.{row_ends, first_bad}
 use Rattle.runs.proofs.Totals.{sum_map}
 

@@ -1,7 +1,6 @@
 -- Products of signed numbers over sums, and products and sums that wrap.
-use Rattle.std.proofs.Common.{◌≡◌, ℕ, zero, suc, ◌+◌, ◌-◌, ◌*◌, ◌%◌, ◌^◌, ◌<◌, ℤ, pos, negsuc, ◌+ℤ◌, ◌-ℤ◌, ◌*ℤ◌, neg_ℤ, sym, refl, ap, ◌∙◌, mod-lt, arith, lit<, w16, w64, SFits, to_z, of_z}
-use lib.IntN.{suc_ℤ, pred_ℤ, zero-*ℤ, *ℤ_comm, suc_ℤ-*ℤ, pred_ℤ-*ℤ, *ℤ-zero}
-use mir.Val.{bits}
+use Rattle.std.proofs.Common.{◌≡◌, ℕ, zero, suc, ◌+◌, ◌-◌, ◌*◌, ◌%◌, ◌^◌, ◌<◌, ℤ, pos, negsuc, ◌+ℤ◌, ◌-ℤ◌, ◌*ℤ◌, neg_ℤ, sym, ap, ◌∙◌, mod-lt, arith, lit<, w16, w64, SFits, to_z, of_z}
+use lib.IntN.{zero-*ℤ, *ℤ_comm, suc_ℤ-*ℤ, pred_ℤ-*ℤ, *ℤ-zero}
 use mir.ValLaws.{of_z_fits}
 use Rattle.std.specs.Int.{int_wrap}
 use Rattle.std.proofs.lemmas.Int.{ints, to_z-of_z, wrapping_mul_is, wrapping_sub-bits, int_wrap-sub_right, wrapping_mul-bits, wrapping_add-bits, to_z_pos, int_wrap-mul_right, int_wrap-add_right, int_wrap-add_left}

@@ -1,21 +1,21 @@
 -- What a read of a settled run gives.
-use Rattle.std.proofs.Common.{◌≡◌, ℕ, suc, ◌+◌, ◌-◌, ◌*◌, ◌/◌, ◌^◌, ◌<◌, ◌≤◌, ◌⊎◌, List, [], ◌∷◌, map, length, ℤ, pos, negsuc, ◌+ℤ◌, ◌-ℤ◌, ◌*ℤ◌, neg_ℤ, ◌<ℤ◌, sym, refl, ap, ◌∙◌, subst, inl, inr, mul-le-mul_left, arith, w32, w64, SFits}
+use Rattle.std.proofs.Common.{◌≡◌, ℕ, suc, ◌+◌, ◌-◌, ◌*◌, ◌/◌, ◌^◌, ◌<◌, ◌≤◌, ◌⊎◌, List, [], ◌∷◌, length, ℤ, pos, negsuc, ◌+ℤ◌, ◌-ℤ◌, ◌*ℤ◌, neg_ℤ, sym, refl, ap, ◌∙◌, inl, inr, mul-le-mul_left, arith, w32, w64, SFits}
 use lib.IntN.{zero-*ℤ, *ℤ-zero, suc_ℤ-*ℤ}
 use lib.ListN.{length-map}
 use Rattle.std.specs.List.{AllByRecursion as All}
 use Rattle.std.specs.Int.{int_wrap}
-use Rattle.std.proofs.lemmas.Int.{ints, int_wrap_fits, int_wrap-add_left}
+use Rattle.std.proofs.lemmas.Int.{ints, int_wrap_fits}
 use Rattle.std.proofs.lemmas.Bool.{cases_lt}
 use Rattle.codes.specs.declared.facts.Facts.{Facts}
 use Rattle.codes.specs.declared.zero_points.ZeroPoints.{ZeroPoints}
 use Rattle.codes.specs.Codes.{Outside}
-use Rattle.codes.specs.Sums.{Column, Pair, pair_at, row_of, exact_sum}
-use Rattle.codes.specs.Shapes.{PairWithin, SumOverflows}
+use Rattle.codes.specs.Sums.{Column, pair_at, row_of, exact_sum}
+use Rattle.codes.specs.Shapes.{PairWithin}
 use Rattle.kernels.specs.Meanings.{Meaning}
 use Rattle.runs.specs.declared.kept.Kept.{Kept}
 use Rattle.runs.specs.Stories.{Story, columns_of, steps_of, settles_of, drains_of}
 use Rattle.runs.specs.Feeds.{weight_at, ColumnWithin}
-use Rattle.runs.specs.Tells.{Tells, TellsSettled, ReadTrue, products, sum_of_weights, sum_of_activations, record_at}
+use Rattle.runs.specs.Tells.{TellsSettled, ReadTrue, products, sum_of_weights, sum_of_activations, record_at}
 use Rattle.runs.specs.Passes.{minus_product, corrected_sum}
 use Rattle.runs.proofs.Bounds.{weight_within}
 use Rattle.runs.proofs.Counts.{drains_bound}

@@ -2,12 +2,9 @@
 use Rattle.std.proofs.Common.{◌≡◌, ℕ, zero, suc, ◌+◌, ◌-◌, ◌*◌, ◌<◌, ◌≤◌, ◌⊎◌, List, length, get_or, take, drop, set, ℤ, pos, Some, None, Ok, Err, Option, Result, sym, refl, ap, ◌∙◌, subst, inl, inr, mul-le-mul_right, mul-le-mul, suc-add, zero-add, add-one, arith, get_or-set_other, get_or-set_same}
 use Rattle.std.proofs.lemmas.Bool.{cases_eq}
 use Rattle.codes.specs.declared.facts.Facts.{Facts}
-use Rattle.codes.specs.declared.shape.Shape.{Shape}
 use Rattle.codes.specs.declared.side.Side.TheVariants.{Weights}
-use Rattle.codes.specs.Codes.{groups}
-use Rattle.kernels.specs.Groups.{Unpacking}
-use Rattle.kernels.specs.Lists.{words_for, unpacked_list}
-use Rattle.runs.specs.Feeds.{row_words, row_codes, bad_in, or_else, first_bad_row, codes_of}
+use Rattle.kernels.specs.Lists.{words_for}
+use Rattle.runs.specs.Feeds.{row_words, bad_in, or_else, first_bad_row, codes_of}
 use Rattle.runs.specs.Passes.{codes_total, list_total}
 
 -- ---- sizes

@@ -1,5 +1,5 @@
 -- Settling row after row.
-use Rattle.std.proofs.Common.{◌≡◌, ℕ, zero, suc, ◌+◌, ◌*◌, ◌/◌, ◌%◌, ◌<◌, ◌≤◌, min, List, [], ◌∷◌, length, get_or, take, set, ℤ, pos, ◌+ℤ◌, sym, refl, ap, ◌∙◌, subst, inl, inr, mod-eq_of_lt, add-mul, mul-le-mul, one-mul, zero-mul, mul-add, arith, get_or-set_other, get_or-set_same, w64, below_more}
+use Rattle.std.proofs.Common.{◌≡◌, ℕ, ◌+◌, ◌*◌, ◌/◌, ◌%◌, ◌<◌, ◌≤◌, min, ◌∷◌, length, take, set, ℤ, pos, ◌+ℤ◌, sym, refl, ap, ◌∙◌, subst, inl, inr, mod-eq_of_lt, add-mul, mul-le-mul, one-mul, zero-mul, mul-add, arith, get_or-set_other, get_or-set_same, w64, below_more}
 use native.Mathlib.Nat.{zero-mod, zero-div}
 use Rattle.std.specs.List.{AllByRecursion as All}
 use Rattle.std.specs.Int.{int_wrap}
@@ -14,7 +14,7 @@ use Rattle.runs.specs.declared.kept.Kept.{Kept}
 use Rattle.runs.specs.declared.kept.RowRecord.{RowRecord}
 use Rattle.runs.specs.Stories.{Story, settled, columns_of, steps_of, open_groups, stretches, settled_drains, drains_of}
 use Rattle.runs.specs.Feeds.{ColumnWithin}
-use Rattle.runs.specs.Tells.{Tells, TellsSettled, products, sum_of_weights, empty_record, record_at}
+use Rattle.runs.specs.Tells.{Tells, TellsSettled, products, empty_record, record_at}
 use Rattle.runs.specs.Passes.{DrainedInto}
 use Rattle.runs.proofs.Bounds.{products_fit}
 use Rattle.runs.proofs.Counts.{drains_few}

@@ -1,5 +1,5 @@
 -- A run at its start, and a settled run.
-use Rattle.std.proofs.Common.{◌≡◌, ℕ, zero, suc, ◌+◌, ◌*◌, ◌/◌, ◌%◌, ◌<◌, ◌≤◌, List, [], length, get_or, take, replicate, ℤ, pos, ◌+ℤ◌, sym, refl, ap, ◌∙◌, inl, inr, mul-zero, arith, below_more}
+use Rattle.std.proofs.Common.{◌≡◌, ℕ, zero, suc, ◌+◌, ◌*◌, ◌/◌, ◌%◌, ◌<◌, List, [], length, take, ℤ, pos, ◌+ℤ◌, sym, refl, ap, ◌∙◌, inl, inr, mul-zero, arith, below_more}
 use native.Mathlib.Nat.{zero-mod, zero-div}
 use Rattle.std.proofs.lemmas.Bool.{cases_lt}
 use Rattle.codes.specs.declared.facts.Facts.{Facts}

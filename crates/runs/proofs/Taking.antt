@@ -1,5 +1,5 @@
 -- The pass over the rows of an accepted feed.
-use Rattle.std.proofs.Common.{◌≡◌, ℕ, zero, suc, ◌+◌, ◌-◌, ◌*◌, ◌/◌, ◌%◌, ◌<◌, ◌≤◌, List, [], ◌∷◌, ◌++◌, map, length, get_or, take, drop, set, ℤ, pos, ◌+ℤ◌, ◌-ℤ◌, Ok, sym, refl, ap, ◌∙◌, subst, mod-lt, mod-eq_of_lt, suc-mul, mul-le-mul, suc-add, le-div_iff_mul-le, zero-add, zero-mul, mul-add, div-mul-le_self, arith, length-append, get_or-set_other, get_or-set_same, w64, below_more}
+use Rattle.std.proofs.Common.{◌≡◌, ℕ, zero, suc, ◌+◌, ◌-◌, ◌*◌, ◌/◌, ◌%◌, ◌<◌, ◌≤◌, List, [], ◌∷◌, ◌++◌, map, length, get_or, take, drop, ℤ, pos, ◌+ℤ◌, ◌-ℤ◌, Ok, sym, refl, ap, ◌∙◌, subst, mod-lt, mod-eq_of_lt, suc-mul, mul-le-mul, suc-add, le-div_iff_mul-le, zero-add, zero-mul, mul-add, div-mul-le_self, arith, length-append, get_or-set_other, get_or-set_same, w64, below_more}
 use lib.ListN.{length-map}
 use Rattle.std.specs.List.{AllByRecursion as All}
 use Rattle.std.specs.Int.{int_wrap}

@@ -1,5 +1,5 @@
 -- One call of a run leads from each point where it stands to the next.
-use Rattle.std.proofs.Common.{◌≡◌, ℕ, Bool, true, false, List, [], ℤ, Ok, Err, Result, sym, refl, ap, ◌∙◌, subst, Bor}
+use Rattle.std.proofs.Common.{◌≡◌, ℕ, List, [], ℤ, Ok, Err, sym, refl, ap, subst, Bor}
 use Rattle.codes.specs.declared.facts.Facts.{Facts}
 use Rattle.codes.specs.declared.shape.Shape.{Shape}
 use Rattle.kernels.specs.Groups.{Unpacking}
@@ -17,7 +17,7 @@ use Rattle.runs.specs.Stories.{Story}
 use Rattle.runs.specs.Feeds.{feed_answer}
 use Rattle.runs.specs.Tells.{Tells, TellsSettled}
 use Rattle.runs.specs.Calls.{Feeds, Settles, Reads}
-use Rattle.runs.specs.Law.{Point, allowed, Turns}
+use Rattle.runs.specs.Law.{allowed, Turns}
 
 module _ {K : Type 0} (means : K → Meaning) (sound : K → Type 0) (unpacked : Shape → Unpacking) where
   abbrev f : OpenRun K → Facts

@@ -1,5 +1,5 @@
 -- A list of calls, one more at its end.
-use Rattle.std.proofs.Common.{◌≡◌, ℕ, zero, suc, ◌+◌, ◌<◌, ◌≤◌, List, [], ◌∷◌, ◌++◌, length, get_or, take, drop, set, ℤ, sym, refl, ap, ◌∙◌, subst, arith, length-take-le, take_all}
+use Rattle.std.proofs.Common.{◌≡◌, ℕ, zero, suc, ◌+◌, ◌<◌, ◌≤◌, List, [], ◌∷◌, ◌++◌, length, get_or, take, drop, set, sym, refl, ap, ◌∙◌, subst, arith, length-take-le, take_all}
 use Rattle.std.proofs.lemmas.List.{take_more, take_more_set, drop-drop, drop-set-lt}
 use Rattle.codes.specs.declared.facts.Facts.{Facts}
 use Rattle.codes.specs.declared.shape.Shape.{Shape}
@@ -12,7 +12,7 @@ use Rattle.runs.specs.declared.calls.Answer.{Answer}
 use Rattle.runs.specs.declared.calls.Answer.TheVariants as answer
 use Rattle.runs.specs.Stories.{Story}
 use Rattle.runs.specs.Tells.{ReadTrue}
-use Rattle.runs.specs.Law.{Point, StandsAt, kernel_of, Right, point_after, Turns, AllRight, point_before, end_point, ReadAt, ReadsExact, Lawful}
+use Rattle.runs.specs.Law.{Point, StandsAt, kernel_of, Right, point_after, Turns, AllRight, point_before, end_point, ReadsExact, Lawful}
 
 module _ (f : Facts) (u : Unpacking) where
   -- the calls so far are right, and lead there

@@ -7,7 +7,7 @@ use Rattle.kernels.specs.Meanings.{Meaning}
 use Rattle.runs.specs.declared.kept.Kept.{Kept}
 use Rattle.runs.specs.declared.refusal.FeedRefusal.{FeedRefusal}
 use Rattle.runs.specs.declared.refusal.ReadRefusal.{ReadRefusal}
-use Rattle.runs.specs.Stories.{Story, fed, settled, columns_of}
+use Rattle.runs.specs.Stories.{Story, fed, settled}
 use Rattle.runs.specs.Feeds.{feed_answer, feed_columns}
 use Rattle.runs.specs.Tells.{Tells, TellsSettled, ReadTrue}
 

@@ -3,11 +3,9 @@ use Rattle.std.specs.Prelude.{◌≡◌, ℕ, zero, suc, ◌<◌, ◌≤◌, Boo
 use Rattle.std.specs.List.Sorted.{IsPermutation}
 use Rattle.codes.specs.declared.facts.Facts.{Facts}
 use Rattle.codes.specs.declared.shape.Shape.{Shape}
-use Rattle.codes.specs.Sums.{Column}
 use Rattle.kernels.specs.Groups.{Unpacking}
 use Rattle.kernels.specs.Meanings.{Meaning}
 use Rattle.runs.specs.declared.refusal.FeedRefusal.{FeedRefusal}
-use Rattle.runs.specs.declared.refusal.ReadRefusal.{ReadRefusal}
 use Rattle.runs.specs.declared.replay.Run.{Run}
 use Rattle.runs.specs.declared.replay.Run.TheVariants.{Open, Settled}
 use Rattle.runs.specs.declared.calls.Call.{Call}

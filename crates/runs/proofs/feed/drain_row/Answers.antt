@@ -1,5 +1,5 @@
 -- A row that has steps is drained.
-use Rattle.std.proofs.Common.{◌≡◌, ◌+ℤ◌, refl, ap, ◌∙◌, arith, w64, SFits, rules}
+use Rattle.std.proofs.Common.{◌+ℤ◌, refl, ap, ◌∙◌, arith, w64, SFits, rules}
 use Rattle.std.specs.Int.{int_wrap}
 use Rattle.std.proofs.lemmas.Int.{wrapping_add_is}
 use Rattle.runs.proofs.Asks.{row_answered, in_row}

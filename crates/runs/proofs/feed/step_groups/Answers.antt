@@ -1,33 +1,33 @@
 -- Group after group of a row.
-use Rattle.std.proofs.Common.{◌≡◌, ℕ, suc, ◌*◌, ◌<◌, ◌≤◌, sym, refl, ap, ◌∙◌, subst, arith}
+use Rattle.std.proofs.Common.{◌≡◌, ℕ, sym, refl, ap, ◌∙◌, subst, arith}
 use Rattle.codes.specs.declared.facts.Facts.{Facts}
 use Rattle.kernels.proofs.ListSizes.{part_ends}
 use Rattle.runs.specs.Passes.{RowStepped}
 use Rattle.runs.proofs.Stepping.{stepped_none, stepped_more, group_gains}
 use Rattle.runs.proofs.feed.step_groups.Goals as goal
 
-pub offset-bounds-weights-start : goal.offset-bounds-weights-start
-offset-bounds-weights-start g c =
+pub offset_bounds-weights-start : goal.offset_bounds-weights-start
+offset_bounds-weights-start g c =
     let p = part_ends c.loop-group.group c.args.facts.shape.weight_words c.args.groups c.loop-group-test.true in
     record { fits = omega (arith, p, c.requires.weights) }
 
-pub slice-bounds-left-end : goal.slice-bounds-left-end
-slice-bounds-left-end g c =
+pub slice_bounds-left-end : goal.slice_bounds-left-end
+slice_bounds-left-end g c =
     let p = part_ends c.loop-group.group c.args.facts.shape.weight_words c.args.groups c.loop-group-test.true in
     omega (arith, p, c.requires.weights)
 
-pub overflow-add-right : goal.overflow-add-right
-overflow-add-right g c =
+pub overflow_add-right : goal.overflow_add-right
+overflow_add-right g c =
     let p = part_ends c.loop-group.group c.args.facts.shape.activation_words c.args.groups c.loop-group-test.true in
     record { fits = omega (arith, p, c.requires.activations) }
 
-pub offset-bounds-activations-start : goal.offset-bounds-activations-start
-offset-bounds-activations-start g c =
+pub offset_bounds-activations-start : goal.offset_bounds-activations-start
+offset_bounds-activations-start g c =
     let p = part_ends c.loop-group.group c.args.facts.shape.activation_words c.args.groups c.loop-group-test.true in
     record { fits = omega (arith, p, c.requires.activations) }
 
-pub slice-bounds-right-end : goal.slice-bounds-right-end
-slice-bounds-right-end g c =
+pub slice_bounds-right-end : goal.slice_bounds-right-end
+slice_bounds-right-end g c =
     let p = part_ends c.loop-group.group c.args.facts.shape.activation_words c.args.groups c.loop-group-test.true in
     omega (arith, p, c.requires.activations)
 
@@ -37,7 +37,7 @@ loop-group-init g c = (λ s. s, λ s. refl, λ s e gain gains l few room. steppe
 pub loop-group-preserved : goal.loop-group-preserved
 loop-group-preserved g c =
     let I = c.loop-group.invariant in
-    let h = c.step-group-made.ensures in (
+    let h = c.step_group-made.ensures in (
       λ s. h.sound (I.0 s),
       λ s. h.facts (I.0 s) ∙ I.1 s,
       λ s e gain gains l few room.
@@ -48,7 +48,7 @@ loop-group-preserved g c =
           let interval : c.args.facts.interval ≡ (g.K.Kernel.means c.loop-group.kernel).facts.interval = ap (λ (x : Facts). x.interval) (e ∙ sym same) in
           let both = group_gains g.K.Kernel.unpacked c.args.facts F _ j c.args.groups c.args.weights.now c.args.activations.now gain e same c.loop-group-test.true gains in
           let S = h.after (I.0 s) interval (gain j) l both (omega (arith, R.room, ap (λ (x : Facts). x.interval) same)) in
-          stepped_more _ _ _ c.args.row _ _ _ gain j c.loop-group.drains c.step-group-made.result F.interval_rule.0 (omega (arith, few, c.loop-group-test.true)) R S,
+          stepped_more _ _ _ c.args.row _ _ _ gain j c.loop-group.drains c.step_group-made.result F.interval_rule.0 (omega (arith, few, c.loop-group-test.true)) R S,
     )
 
 pub returns : goal.returns

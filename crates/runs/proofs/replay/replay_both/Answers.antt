@@ -10,6 +10,6 @@ returns g c =
       agree = λ s s'. agree _ _ _ _ _ _ _ _ (c.replay-first.ensures.law s).2.reads (c.replay-second.ensures.law s').2.reads;
       answers = c.replay-first.ensures.rest;
       replies = c.replay-second.ensures.rest;
-      answer-places = c.replay-first.ensures.places;
-      reply-places = c.replay-second.ensures.places;
+      answer_places = c.replay-first.ensures.places;
+      reply_places = c.replay-second.ensures.places;
     }

@@ -1,7 +1,5 @@
 -- A call that is made, and one that has no place for its answer.
-use Rattle.std.proofs.Common.{◌≡◌, ℕ, length, drop, sym, refl, ◌∙◌, subst, arith}
-use Rattle.codes.specs.declared.facts.Facts.{Facts}
-use Rattle.runs.specs.Law.{kernel_of}
+use Rattle.std.proofs.Common.{◌≡◌, ℕ, length, drop, refl, ◌∙◌, subst, arith}
 use Rattle.runs.proofs.Walking.{walked_more, walked_past, walked_all, rest_next, rest_written}
 use Rattle.runs.proofs.replay.replay_on.Goals as goal
 use Rattle.runs.proofs.replay.replay_on.Goals.{then-place-answers, else-place-answers}

@@ -1,5 +1,5 @@
 -- Reading a place: a refusal, a fill that is not 0, or one code more.
-use Rattle.std.proofs.Common.{◌≡◌, length, arith, w16, SFits, rules}
+use Rattle.std.proofs.Common.{length, arith, w16, SFits, rules}
 use Rattle.codes.specs.declared.facts.Facts.{Facts}
 use Rattle.kernels.proofs.GroupReads.{packing_length}
 use Rattle.runs.proofs.Totals.{summed_none, summed_more, summed_unread, summed_unfilled, summed_all, code_added, stands_as}
@@ -8,20 +8,20 @@ use Rattle.runs.proofs.sums.group_sum.Goals as goal
 pub loop-place-init : goal.loop-place-init
 loop-place-init g c = λ s e. summed_none (g.K.Kernel.unpacked (g.K.Kernel.means c.args.kernel.now).facts.shape c.args.side c.args.words.now) c.args.used
 
-pub returns-in-default : goal.returns-in-default
-returns-in-default g c = λ s e.
+pub returns-in_default : goal.returns-in_default
+returns-in_default g c = λ s e.
     let k = c.args.kernel.now in
     let F : Facts = (g.K.Kernel.means k).facts in
     let words = c.args.words.now in
-    summed_unread F.shape c.args.side (length words) c.args.used c.loop-place.place (g.K.Kernel.unpacked F.shape c.args.side words) c.in-default.field-0 (c.in-default.ensures s) (omega (arith, e, c.loop-place-test.true))
+    summed_unread F.shape c.args.side (length words) c.args.used c.loop-place.place (g.K.Kernel.unpacked F.shape c.args.side words) c.in_default.field-0 (c.in_default.ensures s) (omega (arith, e, c.loop-place-test.true))
     (packing_length (g.K.Kernel.packed F.shape) (g.K.Kernel.unpacked F.shape) F.shape c.args.side (g.met.K.Kernel.packs k s) (g.met.K.Kernel.unpacks k s) words)
 
-pub returns-then-not-may-stand : goal.returns-then-not-may-stand
-returns-then-not-may-stand g c = λ s e.
+pub returns-then-not-may_stand : goal.returns-then-not-may_stand
+returns-then-not-may_stand g c = λ s e.
     let F : Facts = (g.K.Kernel.means c.args.kernel.now).facts in
     let words = c.args.words.now in
     let fits : SFits w16 c.in-Ok.code = search rules in
-    summed_unfilled F.shape c.args.side (length words) c.args.used c.loop-place.place (g.K.Kernel.unpacked F.shape c.args.side words) c.in-Ok.code (c.in-Ok.ensures s) (stands_as c.loop-place.place c.args.used c.in-Ok.code _ fits c.if-not-may-stand.ensures)
+    summed_unfilled F.shape c.args.side (length words) c.args.used c.loop-place.place (g.K.Kernel.unpacked F.shape c.args.side words) c.in-Ok.code (c.in-Ok.ensures s) (stands_as c.loop-place.place c.args.used c.in-Ok.code _ fits c.if-not-may_stand.ensures)
 
 pub loop-place-preserved : goal.loop-place-preserved
 loop-place-preserved g c = λ s e.
@@ -31,7 +31,7 @@ loop-place-preserved g c = λ s e.
     let words = c.args.words.now in
     let code = c.in-Ok.code in
     let fits : SFits w16 c.in-Ok.code = search rules in
-    summed_more F.shape side (length words) c.args.used c.loop-place.place (g.K.Kernel.unpacked F.shape side words) _ _ code (c.in-Ok.ensures s) (stands_as c.loop-place.place c.args.used c.in-Ok.code _ fits c.if-not-may-stand.ensures) (omega (arith, e, c.loop-place-test.true))
+    summed_more F.shape side (length words) c.args.used c.loop-place.place (g.K.Kernel.unpacked F.shape side words) _ _ code (c.in-Ok.ensures s) (stands_as c.loop-place.place c.args.used c.in-Ok.code _ fits c.if-not-may_stand.ensures) (omega (arith, e, c.loop-place-test.true))
     (λ codes h. (g.met.K.Kernel.unpacks k s side words codes h).0.full) (code_added _ code c.loop-place.auto.sum.fits fits) (c.loop-place.invariant s e)
 
 pub returns : goal.returns

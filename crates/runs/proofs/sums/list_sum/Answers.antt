@@ -1,5 +1,5 @@
 -- A group that packs its codes, the first that does not, and the sum of all.
-use Rattle.std.proofs.Common.{◌≡◌, ℕ, ◌-◌, ◌*◌, List, length, ap, ◌∙◌, arith, w64, SFits, rules}
+use Rattle.std.proofs.Common.{◌≡◌, ℕ, ◌-◌, ◌*◌, length, ap, ◌∙◌, arith, w64, SFits, rules}
 use mir.ValLaws.{to_z-Fits}
 use Rattle.std.proofs.lemmas.Int.{wrapping_add_onto}
 use Rattle.codes.specs.declared.shape.Shape.{Shape}
@@ -18,16 +18,16 @@ loop-group-init g c = λ s m w.
     let size : ℕ = c.args.facts.shape.group in
     total_none (rest_from (g.K.Kernel.unpacked S c.args.side) size c.words-width.result (groups size c.args.count) c.args.count c.args.words.now 0)
 
-pub slice-bounds-part-end : goal.slice-bounds-part-end
-slice-bounds-part-end g c =
-    let p = part_ends c.loop-group.group c.words-width.result c.groups-taken-group-end.result c.loop-group-test.true in
-    let l = words_exact c.args.facts c.args.side c.args.count c.groups-taken-group-end.result c.words-width.result (length c.args.words.now) c.requires.exact c.groups-taken-group-end.ensures.value c.words-width.ensures in
+pub slice_bounds-part-end : goal.slice_bounds-part-end
+slice_bounds-part-end g c =
+    let p = part_ends c.loop-group.group c.words-width.result c.groups_taken-group-end.result c.loop-group-test.true in
+    let l = words_exact c.args.facts c.args.side c.args.count c.groups_taken-group-end.result c.words-width.result (length c.args.words.now) c.requires.exact c.groups_taken-group-end.ensures.value c.words-width.ensures in
     omega (arith, p, l)
 
-pub overflow-sub-count : goal.overflow-sub-count
-overflow-sub-count g c =
+pub overflow_sub-count : goal.overflow_sub-count
+overflow_sub-count g c =
     let f = c.args.facts in
-    let h = group_starts c.loop-group.group f.shape.group c.args.count f.shape_rules.2.0 (omega (arith, c.loop-group-test.true, c.groups-taken-group-end.ensures.value)) in
+    let h = group_starts c.loop-group.group f.shape.group c.args.count f.shape_rules.2.0 (omega (arith, c.loop-group-test.true, c.groups_taken-group-end.ensures.value)) in
     omega (arith, h)
 
 pub returns-in-None : goal.returns-in-None
@@ -42,7 +42,7 @@ returns-in-None g c = λ s e.
     let words = c.args.words.now in
     let m : size ≡ S.group = size_of c.args.facts (g.K.Kernel.means c.args.kernel.now).facts e in
     let w : width ≡ words_on S side = width_of c.args.facts (g.K.Kernel.means c.args.kernel.now).facts side c.words-width.result c.words-width.ensures e in
-    total_bad u size width (groups size n) n words at _ _ (omega (arith, c.loop-group-test.true, c.groups-taken-group-end.ensures.value))
+    total_bad u size width (groups size n) n words at _ _ (omega (arith, c.loop-group-test.true, c.groups_taken-group-end.ensures.value))
     (c.in-None.ensures s m ∙ ap (λ ws. group_total (first_codes (n - at * size) (u ws))) (span_is words (at * width) width)) (c.loop-group.invariant s m w)
     ∙ ap list_total (rest_none u size width (groups size n) n words ∙ list_at u size width S.group (words_on S side) n words m w)
 
@@ -56,7 +56,7 @@ loop-group-preserved g c = λ s m w.
     let at : ℕ = c.loop-group.group in
     let words = c.args.words.now in
     let fits : SFits w64 c.in-Some.more = search rules in
-    total_more u size width (groups size n) n words at _ _ _ c.in-Some.more (omega (arith, c.loop-group-test.true, c.groups-taken-group-end.ensures.value))
+    total_more u size width (groups size n) n words at _ _ _ c.in-Some.more (omega (arith, c.loop-group-test.true, c.groups_taken-group-end.ensures.value))
     (c.in-Some.ensures s m ∙ ap (λ ws. group_total (first_codes (n - at * size) (u ws))) (span_is words (at * width) width)) (wrapping_add_onto w64 _ c.in-Some.more c.loop-group.auto.sum.fits fits) (c.loop-group.invariant s m w)
 
 pub returns : goal.returns
@@ -70,5 +70,5 @@ returns g c = λ s e.
     let words = c.args.words.now in
     let m : size ≡ S.group = size_of c.args.facts (g.K.Kernel.means c.args.kernel.now).facts e in
     let w : width ≡ words_on S side = width_of c.args.facts (g.K.Kernel.means c.args.kernel.now).facts side c.words-width.result c.words-width.ensures e in
-    total_all u size width (groups size n) n words c.loop-group.group _ _ (omega (arith, c.loop-group-test.false, c.groups-taken-group-end.ensures.value)) (to_z-Fits w64 _ c.loop-group.auto.sum) (c.loop-group.invariant s m w)
+    total_all u size width (groups size n) n words c.loop-group.group _ _ (omega (arith, c.loop-group-test.false, c.groups_taken-group-end.ensures.value)) (to_z-Fits w64 _ c.loop-group.auto.sum) (c.loop-group.invariant s m w)
     ∙ ap list_total (rest_none u size width (groups size n) n words ∙ list_at u size width S.group (words_on S side) n words m w)

@@ -1,5 +1,5 @@
 -- A row with its sum, and the first with a bad group.
-use Rattle.std.proofs.Common.{◌≡◌, ℕ, ◌+◌, ◌*◌, ◌<◌, ◌≤◌, List, length, get_or, ℤ, pos, None, ap, ◌∙◌, subst, arith, length-set, w64, SFits, rules}
+use Rattle.std.proofs.Common.{◌≡◌, ℕ, ◌*◌, List, None, ap, ◌∙◌, subst, arith, length-set, w64, SFits, rules}
 use Rattle.std.proofs.lemmas.Int.{to_z-of_z}
 use Rattle.codes.specs.declared.facts.Facts.{Facts}
 use Rattle.codes.specs.declared.side.Side.TheVariants.{Weights}
@@ -9,20 +9,20 @@ use Rattle.runs.specs.Passes.{list_total}
 use Rattle.runs.proofs.Rows.{rows_few, row_ends, row_part, row_bad, not_totalled, rows_more}
 use Rattle.runs.proofs.sums.row_sums.Goals as goal
 
-pub offset-bounds-weights-start : goal.offset-bounds-weights-start
-offset-bounds-weights-start g c =
+pub offset_bounds-weights-start : goal.offset_bounds-weights-start
+offset_bounds-weights-start g c =
     let f = c.args.facts in
-    let size : ℕ = c.groups-taken.result * f.shape.weight_words in
+    let size : ℕ = c.groups_taken.result * f.shape.weight_words in
     let p = row_ends c.loop-row.row f.rows size c.loop-row-test.true in
-    let q = rows_few f.rows c.groups-taken.result f.shape.weight_words f.rows_rule.1 (omega (arith, c.groups-taken.ensures.few, c.requires.few)) f.shape_rules.3.0.1 in
+    let q = rows_few f.rows c.groups_taken.result f.shape.weight_words f.rows_rule.1 (omega (arith, c.groups_taken.ensures.few, c.requires.few)) f.shape_rules.3.0.1 in
     record { fits = omega (arith, p, q) }
 
-pub slice-bounds-part-end : goal.slice-bounds-part-end
-slice-bounds-part-end g c =
+pub slice_bounds-part-end : goal.slice_bounds-part-end
+slice_bounds-part-end g c =
     let f = c.args.facts in
-    let size : ℕ = c.groups-taken.result * f.shape.weight_words in
+    let size : ℕ = c.groups_taken.result * f.shape.weight_words in
     let p = row_ends c.loop-row.row f.rows size c.loop-row-test.true in
-    let e : f.rows * size ≡ f.rows * words_for f.shape Weights c.args.count = ap (λ x. f.rows * (x * f.shape.weight_words)) c.groups-taken.ensures.value in
+    let e : f.rows * size ≡ f.rows * words_for f.shape Weights c.args.count = ap (λ x. f.rows * (x * f.shape.weight_words)) c.groups_taken.ensures.value in
     omega (arith, p, e, c.requires.exact)
 
 pub returns-in-Err : goal.returns-in-Err
@@ -32,9 +32,9 @@ returns-in-Err g c = λ s e.
     let u = g.K.Kernel.unpacked F.shape in
     let n = c.args.count in
     let weights = c.args.weights.now in
-    let size : ℕ = c.groups-taken.result * f.shape.weight_words in
+    let size : ℕ = c.groups_taken.result * f.shape.weight_words in
     let row = c.loop-row.row in
-    let part = row_part f F n size row weights (ap (λ x. x * f.shape.weight_words) c.groups-taken.ensures.value) e in
+    let part = row_part f F n size row weights (ap (λ x. x * f.shape.weight_words) c.groups_taken.ensures.value) e in
     let bad = not_totalled _ c.in-Err.group (c.in-Err.ensures s e ∙ ap (λ (ws : List ℕ). list_total (unpacked_list u F.shape Weights n ws)) part) in
     row_bad (row_codes u F.shape n weights) row c.in-Err.group F.rows (c.loop-row.invariant.1 s e).0 bad (omega (arith, c.loop-row-test.true, ap (λ (x : Facts). x.rows) e))
 
@@ -47,10 +47,10 @@ loop-row-preserved g c = (
       let u = g.K.Kernel.unpacked F.shape in
       let n = c.args.count in
       let weights = c.args.weights.now in
-      let size : ℕ = c.groups-taken.result * f.shape.weight_words in
+      let size : ℕ = c.groups_taken.result * f.shape.weight_words in
       let row = c.loop-row.row in
       let fits : SFits w64 c.in-Ok.sum = search rules in
-      let part = row_part f F n size row weights (ap (λ x. x * f.shape.weight_words) c.groups-taken.ensures.value) e in
+      let part = row_part f F n size row weights (ap (λ x. x * f.shape.weight_words) c.groups_taken.ensures.value) e in
       rows_more (row_codes u F.shape n weights) row c.in-Ok.sum _ c.loop-row.sums (to_z-of_z w64 c.in-Ok.sum fits) (omega (arith, c.loop-row.invariant.0, c.loop-row-test.true, f.rows_rule.1))
       (c.in-Ok.ensures s e ∙ ap (λ (ws : List ℕ). list_total (unpacked_list u F.shape Weights n ws)) part) (c.loop-row.invariant.1 s e),
 )

@@ -1,7 +1,6 @@
 -- One record more is cleared, and then all are.
-use Rattle.std.proofs.Common.{◌≡◌, ℕ, ◌+◌, List, [], ◌∷◌, ◌++◌, length, take, replicate, pos, sym, ap, ◌∙◌, subst, arith, length-set}
+use Rattle.std.proofs.Common.{◌≡◌, ℕ, List, [], ◌∷◌, ◌++◌, take, replicate, pos, sym, ap, ◌∙◌, subst, arith, length-set}
 use Rattle.std.proofs.lemmas.List.{take_more_set, take_all, replicate_more}
-use Rattle.runs.specs.declared.kept.Kept.{Kept}
 use Rattle.runs.specs.declared.kept.RowRecord.{RowRecord}
 use Rattle.runs.specs.Tells.{empty_record}
 use Rattle.runs.proofs.kept.Kept.clear.Goals as goal

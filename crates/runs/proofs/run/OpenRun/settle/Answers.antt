@@ -1,5 +1,5 @@
 -- Row after row is drained.
-use Rattle.std.proofs.Common.{◌≡◌, length, refl, ap, ◌∙◌, arith, length-set, rules}
+use Rattle.std.proofs.Common.{ap, ◌∙◌, arith, length-set}
 use Rattle.codes.specs.declared.facts.Facts.{Facts}
 use Rattle.runs.proofs.Settling.{settled_none, settled_more, settled_all}
 use Rattle.runs.proofs.run.OpenRun.settle.Goals as goal
@@ -10,10 +10,10 @@ loop-row-preserved g c =
       simp length-set long,
       λ sd.
           let I = c.loop-row.invariant.1 sd in
-          let D = c.drain-row-made.ensures.after I.0 in (
-            c.drain-row-made.ensures.sound I.0,
+          let D = c.drain_row-made.ensures.after I.0 in (
+            c.drain_row-made.ensures.sound I.0,
             D.others.facts ∙ I.1,
-            λ s t l start. settled_more _ _ s t c.loop-row.row _ c.loop-row.kept _ c.drain-row-made.new.kept c.drain-row-made.result c.counted.result c.counted.ensures (omega arith) long D (I.2 s t (omega arith) start),
+            λ s t l start. settled_more _ _ s t c.loop-row.row _ c.loop-row.kept _ c.drain_row-made.new.kept c.drain_row-made.result c.counted.result c.counted.ensures (omega arith) long D (I.2 s t (omega arith) start),
           ),
     )
 
