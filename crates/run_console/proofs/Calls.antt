@@ -6,7 +6,7 @@ use Rattle.kernels.specs.Meanings.{Meaning}
 use Rattle.runs.specs.declared.replay.Run.{Run}
 use Rattle.runs.specs.declared.calls.Call.{Call}
 use Rattle.runs.specs.declared.calls.Answer.{Answer}
-use Rattle.runs.specs.Law.{Point, StandsAt, Lawful}
+use Rattle.runs.specs.Law.{Point, Lawful}
 use Rattle.run_console.specs.Texts.{answer_text}
 use Rattle.run_console.specs.Replies.{RightReply}
 
