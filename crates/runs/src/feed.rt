@@ -110,5 +110,5 @@ pub(crate) fn drain_row<K: Kernel>(kernel: &mut K, row: usize, kept: &mut RowRec
 fn is_full(steps: u32, interval: u32) -> bool
     ensures { result ≡ (steps == interval) }
 {
-    steps == interval
+    interval == steps
 }
