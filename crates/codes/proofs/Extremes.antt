@@ -1,19 +1,19 @@
 -- Sums and products of bounded integers: their extremes, and that they are reached.
 use Rattle.std.proofs.Common.{◌≡◌, ℕ, zero, suc, ◌*◌, ◌≤◌, max, List, [], ◌∷◌, length, replicate, ℤ, pos, negsuc, ◌*ℤ◌, neg_ℤ, ◌≤ℤ◌, suc-mul, mul-le-mul, arith}
-use Rattle.std.specs.List.{AllByRecursion as All}
+use Rattle.std.specs.List.{AllByRecursion}
 use Rattle.std.proofs.lemmas.Int.{ints}
 use Rattle.codes.specs.Codes.{Between}
 use Rattle.codes.specs.Sums.{sum_of}
 
 -- every part is at most `high`, or at least −`low`: so is the sum, times the length
-pub sum_most : {X : Type 0} (f : X → ℤ) (P : X → Type 0) (high : ℕ) → ((x : X) → P x → f x ≤ℤ pos high) → (xs : List X) → All P xs → sum_of f xs ≤ℤ pos (length xs * high)
+pub sum_most : {X : Type 0} (f : X → ℤ) (P : X → Type 0) (high : ℕ) → ((x : X) → P x → f x ≤ℤ pos high) → (xs : List X) → AllByRecursion P xs → sum_of f xs ≤ℤ pos (length xs * high)
 sum_most f P high each [] a = omega (arith, ints)
 sum_most f P high each (x ∷ xs) a =
     let h = each x a.0 in
     let t = sum_most f P high each xs a.1 in
     omega (arith, ints, suc-mul (length xs) high)
 
-pub sum_least : {X : Type 0} (f : X → ℤ) (P : X → Type 0) (low : ℕ) → ((x : X) → P x → neg_ℤ (pos low) ≤ℤ f x) → (xs : List X) → All P xs → neg_ℤ (pos (length xs * low)) ≤ℤ sum_of f xs
+pub sum_least : {X : Type 0} (f : X → ℤ) (P : X → Type 0) (low : ℕ) → ((x : X) → P x → neg_ℤ (pos low) ≤ℤ f x) → (xs : List X) → AllByRecursion P xs → neg_ℤ (pos (length xs * low)) ≤ℤ sum_of f xs
 sum_least f P low each [] a = omega (arith, ints)
 sum_least f P low each (x ∷ xs) a =
     let h = each x a.0 in
@@ -21,7 +21,7 @@ sum_least f P low each (x ∷ xs) a =
     omega (arith, ints, suc-mul (length xs) low)
 
 -- one element many times
-pub all_replicate : {X : Type 0} (P : X → Type 0) (n : ℕ) (x : X) → P x → All P (replicate n x)
+pub all_replicate : {X : Type 0} (P : X → Type 0) (n : ℕ) (x : X) → P x → AllByRecursion P (replicate n x)
 all_replicate P zero x h = tt
 all_replicate P (suc n) x h = (h, all_replicate P n x h)
 

@@ -1,6 +1,6 @@
 -- The place of the first code outside its ends: a loop's steps, and what the place says.
 use Rattle.std.proofs.Common.{◌≡◌, ℕ, zero, suc, ◌+◌, ◌<◌, ◌≤◌, true, false, List, [], ◌∷◌, length, get_or, drop, ℤ, pos, Some, None, Option, sym, refl, ◌∙◌, subst, inl, inr, arith}
-use Rattle.std.specs.List.{AllByRecursion as All}
+use Rattle.std.specs.List.{AllByRecursion}
 use Rattle.std.proofs.lemmas.List.{at_drop_more, at_drop_all}
 use Rattle.std.proofs.lemmas.Bool.{cond-true, cond-false, cases_Bool}
 use Rattle.codes.specs.declared.ends.Ends.{Ends}
@@ -20,13 +20,13 @@ module _ (at : ℕ) (e : Ends) (codes : List ℤ) where
   outside_none h = at_drop_all (outside_from at e) codes at h
 
 -- codes within their ends leave no place
-pub none_outside_from : (at : ℕ) (e : Ends) (codes : List ℤ) → All (Within e) codes → outside_from at e codes ≡ None
+pub none_outside_from : (at : ℕ) (e : Ends) (codes : List ℤ) → AllByRecursion (Within e) codes → outside_from at e codes ≡ None
 none_outside_from at e [] w = refl
 none_outside_from at e (code ∷ codes) w = cond-true _ _ _ (within_holds e code w.0) ∙ none_outside_from (at + 1) e codes w.1
 
 -- what the place says, where the list begins at place `at`
 abbrev FoundFrom : ℕ → Ends → List ℤ → Option ℕ → Type 0
-FoundFrom at e codes None = All (Within e) codes
+FoundFrom at e codes None = AllByRecursion (Within e) codes
 FoundFrom at e codes (Some place) = (k : ℕ) × (place ≡ at + k) × OutsideAt e codes k
 
 later : (e : Ends) (code : ℤ) (codes : List ℤ) (k : ℕ) → Within e code → OutsideAt e codes k → OutsideAt e (code ∷ codes) (suc k)

@@ -1,6 +1,6 @@
 -- The place of the first code of a list that lies outside its ends. Places are counted from 0.
 use Rattle.std.specs.Prelude.{ℕ, ◌+◌, ◌<◌, cond, List, [], ◌∷◌, length, ℤ, pos, Some, None, Option, slice_index_or}
-use Rattle.std.specs.List.{AllByRecursion as All}
+use Rattle.std.specs.List.{AllByRecursion}
 use Rattle.codes.specs.declared.ends.Ends.{Ends}
 use Rattle.codes.specs.Codes.{Within, Outside, holds}
 
@@ -20,5 +20,5 @@ pub record OutsideAt (e : Ends) (codes : List ℤ) (place : ℕ) : Type 0 where
 
 -- what the place of the first code outside says: none, and all lie within; or one, and it is the first
 abbrev pub FirstPlace : Ends → List ℤ → Option ℕ → Type 0
-FirstPlace e codes None = All (Within e) codes
+FirstPlace e codes None = AllByRecursion (Within e) codes
 FirstPlace e codes (Some place) = OutsideAt e codes place

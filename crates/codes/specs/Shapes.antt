@@ -1,6 +1,6 @@
 -- The rules of a shape and of what goes with it.
 use Rattle.std.specs.Prelude.{ℕ, ◌-◌, ◌*◌, ◌^◌, ◌≤◌, List, length, pos, neg_ℤ}
-use Rattle.std.specs.List.{AllByRecursion as All}
+use Rattle.std.specs.List.{AllByRecursion}
 use Rattle.codes.specs.declared.ends.Ends.{Ends}
 use Rattle.codes.specs.declared.shape.Shape.{Shape}
 use Rattle.codes.specs.declared.side.Side.{Side}
@@ -43,5 +43,5 @@ pub record PairWithin (weights activations : Ends) (p : Pair) : Type 0 where
 pub record SumOverflows (s : Shape) (z : ZeroPoints) (longest : ℕ) : Type 0 where
   pub pairs : List Pair
   pub few : length pairs ≤ longest
-  pub within : All (PairWithin s.weight_ends s.activation_ends) pairs
+  pub within : AllByRecursion (PairWithin s.weight_ends s.activation_ends) pairs
   pub outside : Outside (neg_ℤ (pos (2 ^ 31))) (pos (2 ^ 31 - 1)) (exact_sum z pairs)

@@ -1,6 +1,6 @@
 -- One group of a list: its fill, and the codes in front of the fill.
 use Rattle.std.proofs.Common.{◌≡◌, ℕ, zero, suc, ◌-◌, ◌≤◌, min, true, List, [], ◌∷◌, ◌++◌, length, get_or, take, drop, replicate, ℤ, pos, negsuc, Some, None, Option, sym, refl, ap, ◌∙◌, subst, inl, inr, arith}
-use Rattle.std.specs.List.{AllByRecursion as All}
+use Rattle.std.specs.List.{AllByRecursion}
 use Rattle.std.proofs.lemmas.List.{length-append, length-replicate, length-drop, length-take, append-nil, take_all, take_at, drop_all, drop_at, take-append-drop}
 use Rattle.std.proofs.ByRecursion.{All-append, All-take}
 use Rattle.std.proofs.lemmas.Bool.{cases_lt, cases_Bool, and_parts, cond-true, cond-false, eqb-true, false≢true}
@@ -91,7 +91,7 @@ first_from n (Some group) codes h =
 -- ---- a group and its packing
 
 module _ (packed : Packing) (unpacked : Unpacking) (s : Shape) (side : Side) (packs : Packs packed unpacked s) (unpacks : Unpacks packed unpacked s) where
-  pub filled_group : (codes : List ℤ) → Within (ends_on s side) (pos 0) → length codes ≤ s.group → All (Within (ends_on s side)) codes → Group s side (filled s.group codes)
+  pub filled_group : (codes : List ℤ) → Within (ends_on s side) (pos 0) → length codes ≤ s.group → AllByRecursion (Within (ends_on s side)) codes → Group s side (filled s.group codes)
   filled_group codes z l w =
       record {
         full = length_filled s.group codes l;
@@ -99,7 +99,7 @@ module _ (packed : Packing) (unpacked : Unpacking) (s : Shape) (side : Side) (pa
       }
 
   -- the words that pack codes and their fill give these codes
-  pub group_first : (n : ℕ) (words : List ℕ) (codes : List ℤ) → Within (ends_on s side) (pos 0) → length codes ≡ min s.group n → All (Within (ends_on s side)) codes
+  pub group_first : (n : ℕ) (words : List ℕ) (codes : List ℤ) → Within (ends_on s side) (pos 0) → length codes ≡ min s.group n → AllByRecursion (Within (ends_on s side)) codes
       → words ≡ packed side (filled s.group codes) → first_codes n (unpacked side words) ≡ Some codes
   group_first n words codes z l w e =
       ap (λ ws. first_codes n (unpacked side ws)) e
@@ -108,11 +108,11 @@ module _ (packed : Packing) (unpacked : Unpacking) (s : Shape) (side : Side) (pa
 
   -- and words that give codes pack them
   pub group_packs : (n : ℕ) (words : List ℕ) (codes : List ℤ) → first_codes n (unpacked side words) ≡ Some codes
-      → (length codes ≡ min s.group n) × All (Within (ends_on s side)) codes × (words ≡ packed side (filled s.group codes))
+      → (length codes ≡ min s.group n) × AllByRecursion (Within (ends_on s side)) codes × (words ≡ packed side (filled s.group codes))
   group_packs n words codes h =
       let f = first_from n (unpacked side words) codes h in
       let u = unpacks side words f.group f.is in (
         ap length f.front ∙ length-take n f.group ∙ omega (arith, u.0.full),
-        subst (All (Within (ends_on s side))) (sym f.front) (All-take (Within (ends_on s side)) n f.group u.0.within),
+        subst (AllByRecursion (Within (ends_on s side))) (sym f.front) (All-take (Within (ends_on s side)) n f.group u.0.within),
         sym u.1 ∙ ap (packed side) (sym (filled_first s.group n f.group u.0.full f.rest) ∙ ap (filled s.group) (sym f.front)),
       )

@@ -1,7 +1,7 @@
 -- The loops that pack and unpack a list: one group more, and all of them.
 use Rattle.std.proofs.Common.{◌≡◌, ℕ, suc, ◌+◌, ◌-◌, ◌*◌, ◌<◌, ◌≤◌, Bool, true, false, cond, ◌&&◌, eqb, leb, List, ◌++◌, length, take, drop, ℤ, is_ok, Some, None, Ok, Option, Result, sym, refl, ap, ◌∙◌, append_assoc, add-mul, one-mul, zero-mul, arith}
 use borrow.Rule.Slice.PartMut.{put_mid}
-use Rattle.std.specs.List.{AllByRecursion as All}
+use Rattle.std.specs.List.{AllByRecursion}
 use Rattle.std.proofs.lemmas.Nat.{mul-le}
 use Rattle.std.proofs.lemmas.List.{take_all, append-nil, drop-drop}
 use Rattle.std.proofs.lemmas.Slice.{take-put_mid}
@@ -20,7 +20,7 @@ use Rattle.kernels.specs.Lists.{packed_groups}
 -- ---- packing
 
 -- a packing that no question refuses
-pack_ok : (most needed : ℕ) (s : Shape) (side : Side) (codes : List ℤ) (words : ℕ) → 1 ≤ length codes → length codes ≤ most → words ≡ needed → All (Within (ends_on s side)) codes
+pack_ok : (most needed : ℕ) (s : Shape) (side : Side) (codes : List ℤ) (words : ℕ) → 1 ≤ length codes → length codes ≤ most → words ≡ needed → AllByRecursion (Within (ends_on s side)) codes
     → pack_answer most needed s side codes words ≡ Ok tt
 pack_ok most needed s side codes words l u e w =
     cond-true _ _ _ (and_from (leb 1 (length codes)) (leb (length codes) most) (le-leb 1 (length codes) l) (le-leb (length codes) most u))
@@ -29,7 +29,7 @@ pack_ok most needed s side codes words l u e w =
 
 -- what a group's words hold after a packing that no question refuses
 pub group_written : (s : Shape) (side : Side) (codes : List ℤ) (words : ℕ) (r : Result (Unit {0}) PackRefusal) (new written before : List ℕ)
-    → 1 ≤ length codes → length codes ≤ s.group → words ≡ words_on s side → All (Within (ends_on s side)) codes
+    → 1 ≤ length codes → length codes ≤ s.group → words ≡ words_on s side → AllByRecursion (Within (ends_on s side)) codes
     → r ≡ group_answer s side codes words → new ≡ cond (is_ok r) written before → new ≡ written
 group_written s side codes words r new written before l u e w answer after =
     after ∙ ap (λ x. cond (is_ok x) written before) (answer ∙ pack_ok s.group (words_on s side) s side codes words l u e w)
@@ -77,6 +77,6 @@ no_place None h = refl
 no_place (Some place) h = absurd (let z : ◌≡◌ {A = ℕ} 0 1 = cc in omega arith)
 
 -- all codes that are packed lie within their ends
-pub packed_within : (most needed : ℕ) (s : Shape) (side : Side) (codes : List ℤ) (words : ℕ) → Ok tt ≡ pack_answer most needed s side codes words → All (Within (ends_on s side)) codes
+pub packed_within : (most needed : ℕ) (s : Shape) (side : Side) (codes : List ℤ) (words : ℕ) → Ok tt ≡ pack_answer most needed s side codes words → AllByRecursion (Within (ends_on s side)) codes
 packed_within most needed s side codes words h =
     first_place (ends_on s side) codes None (no_place _ (asked (eqb words needed) Words _ tt (asked (leb 1 (length codes) && leb (length codes) most) Count _ tt h)))

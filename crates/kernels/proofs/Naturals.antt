@@ -1,7 +1,7 @@
 -- Codes from 0 on, as natural numbers.
 use Rattle.std.proofs.Common.{◌≡◌, ℕ, ◌+◌, ◌-◌, ◌*◌, ◌^◌, ◌≤◌, List, [], ◌∷◌, map, length, ℤ, pos, negsuc, ◌+ℤ◌, ◌*ℤ◌, nat_abs, refl, ap, ◌∙◌, mul-le-mul, arith}
 use lib.Lanes.{Each1}
-use Rattle.std.specs.List.{AllByRecursion as All}
+use Rattle.std.specs.List.{AllByRecursion}
 use Rattle.std.proofs.lemmas.Simd.{map-map}
 use Rattle.std.proofs.lemmas.List.{map-id}
 use Rattle.std.proofs.lemmas.Int.{ints}
@@ -18,14 +18,14 @@ pub record Naturals (size : ℕ) (codes : List ℤ) : Type 0 where
   pub most : Each1 (λ n. n ≤ 2 ^ size - 1) (map nat_abs codes)
   pub back : map pos (map nat_abs codes) ≡ codes
 
-pub naturals : (size : ℕ) (codes : List ℤ) → All (Within (bit_ends size)) codes → Naturals size codes
+pub naturals : (size : ℕ) (codes : List ℤ) → AllByRecursion (Within (bit_ends size)) codes → Naturals size codes
 naturals size [] h = record { most = tt; back = refl }
 naturals size (pos n ∷ codes) (h, hs) =
     let r = naturals size codes hs in
     record { most = (omega (arith, ints), r.most); back = ap (λ (cs : List ℤ). pos n ∷ cs) r.back }
 naturals size (negsuc n ∷ codes) (h, hs) = absurd (omega (arith, ints))
 
-pub most_within : (size : ℕ) (xs : List ℕ) → Each1 (λ n. n ≤ 2 ^ size - 1) xs → All (Within (bit_ends size)) (map pos xs)
+pub most_within : (size : ℕ) (xs : List ℕ) → Each1 (λ n. n ≤ 2 ^ size - 1) xs → AllByRecursion (Within (bit_ends size)) (map pos xs)
 most_within size [] hs = tt
 most_within size (x ∷ xs) (h, hs) = ((omega (arith, ints), omega (arith, ints)), most_within size xs hs)
 

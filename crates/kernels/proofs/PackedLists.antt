@@ -1,6 +1,6 @@
 -- Lists of groups: unpacking returns what was packed, packing returns what was unpacked, and the first group that packs no codes.
 use Rattle.std.proofs.Common.{◌≡◌, ℕ, zero, suc, ◌+◌, ◌-◌, ◌*◌, ◌<◌, ◌≤◌, min, ◌⊎◌, List, [], ◌++◌, length, take, drop, ℤ, pos, Some, None, Ok, Err, Option, Result, sym, refl, ap, ◌∙◌, subst, inl, inr, ⊎_elim, suc-mul, zero-mul, arith}
-use Rattle.std.specs.List.{AllByRecursion as All}
+use Rattle.std.specs.List.{AllByRecursion}
 use Rattle.std.proofs.lemmas.List.{length-append, length-drop, length-take, take_at, take_all, drop_at, drop_all, drop-drop, append-nil, take-append-drop, nil_from_length}
 use Rattle.std.proofs.ByRecursion.{All-append, All-take, All-drop}
 use Rattle.std.proofs.lemmas.Bool.{cases_lt}
@@ -57,7 +57,7 @@ no_codes o codes e f = let z : ◌≡◌ {A = ℕ} 0 1 = cc in omega arith
 
 module _ (packed : Packing) (unpacked : Unpacking) (s : Shape) (side : Side) (packs : Packs packed unpacked s) (unpacks : Unpacks packed unpacked s) (zero_in : Within (ends_on s side) (pos 0)) where
   -- unpacking what was packed
-  pub unpacks_back : (at count : ℕ) (codes : List ℤ) → length codes ≤ count * s.group → All (Within (ends_on s side)) codes
+  pub unpacks_back : (at count : ℕ) (codes : List ℤ) → length codes ≤ count * s.group → AllByRecursion (Within (ends_on s side)) codes
       → unpacked_groups (unpacked side) s.group (words_on s side) at count (length codes) (packed_groups (packed side) s.group count codes) ≡ Ok codes
   unpacks_back at zero codes l w =
       let none : codes ≡ [] = nil_from_length codes (omega (arith, zero-mul s.group)) in
@@ -66,7 +66,7 @@ module _ (packed : Packing) (unpacked : Unpacking) (s : Shape) (side : Side) (pa
       let m : ℕ = s.group in
       let front : List ℤ = take m codes in
       let rest : List ℤ = drop m codes in
-      let within : All (Within (ends_on s side)) front = All-take (Within (ends_on s side)) m codes w in
+      let within : AllByRecursion (Within (ends_on s side)) front = All-take (Within (ends_on s side)) m codes w in
       let short : length front ≡ min m (length codes) = length-take m codes in
       let part : List ℕ = packed side (filled m front) in
       let more : List ℕ = packed_groups (packed side) m count rest in
@@ -84,10 +84,10 @@ module _ (packed : Packing) (unpacked : Unpacking) (s : Shape) (side : Side) (pa
   -- packing what was unpacked
   pub packs_again : (at count n : ℕ) (words : List ℕ) (codes : List ℤ) → n ≤ count * s.group → length words ≡ count * words_on s side
       → unpacked_groups (unpacked side) s.group (words_on s side) at count n words ≡ Ok codes
-      → (length codes ≡ n) × All (Within (ends_on s side)) codes × (packed_groups (packed side) s.group count codes ≡ words)
+      → (length codes ≡ n) × AllByRecursion (Within (ends_on s side)) codes × (packed_groups (packed side) s.group count codes ≡ words)
   packs_again at zero n words codes l k h =
       let none : codes ≡ [] = cc in
-      (ap length none ∙ omega (arith, zero-mul s.group), subst (All (Within (ends_on s side))) (sym none) tt, sym (nil_from_length words (omega (arith, zero-mul (words_on s side)))))
+      (ap length none ∙ omega (arith, zero-mul s.group), subst (AllByRecursion (Within (ends_on s side))) (sym none) tt, sym (nil_from_length words (omega (arith, zero-mul (words_on s side)))))
   packs_again at (suc count) n words codes l k h =
       let m : ℕ = s.group in
       let w : ℕ = words_on s side in
@@ -98,7 +98,7 @@ module _ (packed : Packing) (unpacked : Unpacking) (s : Shape) (side : Side) (pa
       let first : take m codes ≡ j.front = ap (take m) j.is ∙ (front_parts m n j.front j.rest g.0 r.0).0 in
       let later : drop m codes ≡ j.rest = ap (drop m) j.is ∙ (front_parts m n j.front j.rest g.0 r.0).1 in (
         long,
-        subst (All (Within (ends_on s side))) (sym j.is) (All-append (Within (ends_on s side)) j.front j.rest g.1 r.1),
+        subst (AllByRecursion (Within (ends_on s side))) (sym j.is) (All-append (Within (ends_on s side)) j.front j.rest g.1 r.1),
         ap (λ xs. packed side (filled m xs) ++ packed_groups (packed side) m count (drop m codes)) first
             ∙ ap (λ xs. packed side (filled m j.front) ++ packed_groups (packed side) m count xs) later
             ∙ ap (λ ws. ws ++ packed_groups (packed side) m count j.rest) (sym g.2)

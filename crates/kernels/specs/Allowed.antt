@@ -1,6 +1,6 @@
 -- The answers to a call's questions from the answer to each, and what a yes to all of them says.
 use Rattle.std.specs.Prelude.{◌≡◌, ℕ, ◌<◌, ◌≤◌, Bool, true, ◌&&◌, List, length, ℤ, Some, Ok, Result, ◌==◌}
-use Rattle.std.specs.List.{AllByRecursion as All}
+use Rattle.std.specs.List.{AllByRecursion}
 use Rattle.codes.specs.declared.shape.Shape.{Shape}
 use Rattle.codes.specs.declared.side.Side.{Side}
 use Rattle.codes.specs.declared.side.Side.TheVariants.{Weights, Activations}
@@ -43,7 +43,7 @@ pub record CodesAllowed (most needed : ℕ) (s : Shape) (side : Side) (codes : L
   pub some : 1 ≤ length codes
   pub count : length codes ≤ most
   pub words_are : words ≡ needed
-  pub within : All (Within (ends_on s side)) codes
+  pub within : AllByRecursion (Within (ends_on s side)) codes
 
 -- what an accepted reading of a code has found
 pub record CodeAllowed (s : Shape) (side : Side) (words : ℕ) (packing : Bool) (place : ℕ) : Type 0 where

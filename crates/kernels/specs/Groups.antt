@@ -1,6 +1,6 @@
 -- Groups of codes and their packings.
 use Rattle.std.specs.Prelude.{◌≡◌, ℕ, ◌-◌, List, [], ◌∷◌, ◌++◌, length, replicate, ℤ, pos, Some, Option}
-use Rattle.std.specs.List.{AllByRecursion as All}
+use Rattle.std.specs.List.{AllByRecursion}
 use Rattle.codes.specs.declared.shape.Shape.{Shape}
 use Rattle.codes.specs.declared.side.Side.{Side}
 use Rattle.codes.specs.Codes.{Within}
@@ -10,7 +10,7 @@ use Rattle.codes.specs.Sums.{Pair, product, sum_of}
 -- a full group of codes within the ends of its side
 pub record Group (s : Shape) (side : Side) (codes : List ℤ) : Type 0 where
   pub full : length codes ≡ s.group
-  pub within : All (Within (ends_on s side)) codes
+  pub within : AllByRecursion (Within (ends_on s side)) codes
 
 -- the codes, filled up with code 0 to a full group
 abbrev pub filled : (size : ℕ) → List ℤ → List ℤ

@@ -1,6 +1,6 @@
 -- Lists of codes, packed group after group.
 use Rattle.std.specs.Prelude.{◌≡◌, ℕ, zero, suc, ◌+◌, ◌-◌, ◌*◌, ◌<◌, min, Bool, true, false, cond, ◌&&◌, List, [], ◌∷◌, ◌++◌, length, take, drop, ℤ, pos, negsuc, Some, None, Ok, Err, Option, Result, ◌==◌, nat_le}
-use Rattle.std.specs.List.{AllByRecursion as All}
+use Rattle.std.specs.List.{AllByRecursion}
 use Rattle.codes.specs.declared.shape.Shape.{Shape}
 use Rattle.codes.specs.declared.side.Side.{Side}
 use Rattle.codes.specs.Codes.{Within, groups}
@@ -79,7 +79,7 @@ codes_after (Err group) before = before
 pub record GroupPacks (packed : Packing) (s : Shape) (side : Side) (n : ℕ) (words : List ℕ) (j : ℕ) : Type 0 where
   pub codes : List ℤ
   pub count : length codes ≡ min s.group (n - j * s.group)
-  pub within : All (Within (ends_on s side)) codes
+  pub within : AllByRecursion (Within (ends_on s side)) codes
   pub packs : take (words_on s side) (drop (j * words_on s side) words) ≡ packed side (filled s.group codes)
 
 -- unpacking what was packed returns the codes
@@ -90,7 +90,7 @@ UnpacksBack unpacked s side codes words (Err e) = Unit {0}
 -- packing what was unpacked returns the words; a refused group is the first that packs no codes
 pub record PacksAgain (packed : Packing) (s : Shape) (side : Side) (n : ℕ) (words : List ℕ) (codes : List ℤ) : Type 0 where
   pub count : length codes ≡ n
-  pub within : All (Within (ends_on s side)) codes
+  pub within : AllByRecursion (Within (ends_on s side)) codes
   pub again : packed_list packed s side codes ≡ words
 
 pub record FirstBad (packed : Packing) (s : Shape) (side : Side) (n : ℕ) (words : List ℕ) (group : ℕ) : Type 0 where

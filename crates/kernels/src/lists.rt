@@ -1,6 +1,6 @@
 // Lists of codes, packed and unpacked group after group by any kernel.
 ghost use Rattle.std.specs.Prelude.{◌≡◌, ◌≤◌, ◌&&◌, leb, List, length, take, ℤ, is_some, is_ok, if◌then◌else◌, Some, None, Ok, ◌==◌, nat_le};
-ghost use Rattle.std.specs.List.{AllByRecursion as All};
+ghost use Rattle.std.specs.List.{AllByRecursion};
 ghost use Rattle.codes.specs.Codes.{Within, groups};
 ghost use Rattle.codes.specs.Shapes.{ends_on};
 ghost use Rattle.kernels.specs.declared.refusal.UnpackRefusal.TheVariants.{Count, Words};
@@ -126,7 +126,7 @@ fn groups_for(facts: Facts, n: usize) -> usize
 fn write_groups<K: Kernel>(kernel: &K, facts: Facts, side: Side, codes: &[i16], words: &mut [u16])
     requires few { length codes.now ≤ 65536 }
     requires exact { length words.old ≡ words_for facts.shape side (length codes.now) }
-    ensures { K.Kernel.sound kernel.now → facts ≡ (K.Kernel.means kernel.now).facts → All (Within (ends_on (K.Kernel.means kernel.now).facts.shape side)) codes.now → words.new ≡ packed_list (K.Kernel.packed (K.Kernel.means kernel.now).facts.shape) (K.Kernel.means kernel.now).facts.shape side codes.now }
+    ensures { K.Kernel.sound kernel.now → facts ≡ (K.Kernel.means kernel.now).facts → AllByRecursion (Within (ends_on (K.Kernel.means kernel.now).facts.shape side)) codes.now → words.new ≡ packed_list (K.Kernel.packed (K.Kernel.means kernel.now).facts.shape) (K.Kernel.means kernel.now).facts.shape side codes.now }
 {
     let size = facts.shape.group;
     let width = facts.shape.words(side);

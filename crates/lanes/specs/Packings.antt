@@ -3,7 +3,7 @@ use Rattle.std.specs.Prelude.{◌≡◌, ℕ, zero, suc, ◌+◌, ◌-◌, ◌*�
 use Rattle.std.proofs.Common.{sym, ap, subst, ◌∙◌, mod-eq_of_lt, mul-zero, mul-le-mul_left, arith}
 use Rattle.std.proofs.Math.Nat.{add-mul-div_left, add-mul-mod_self_left, div-eq_of_lt}
 use Rattle.std.specs.Simd.Lanes.{number_l, digits_l, Each1}
-use Rattle.std.specs.List.{AllByRecursion as All}
+use Rattle.std.specs.List.{AllByRecursion}
 use Rattle.std.proofs.lemmas.Nat.{pow-add}
 use Rattle.std.proofs.ByRecursion.{All-append}
 use Rattle.std.proofs.lemmas.List.{reverse-reverse, at_drop_more, at_drop_all, length-reverse, length-map}
@@ -144,7 +144,7 @@ word_is w d Activations cs e =
 
 -- ---- the two laws, of one side with codes of z bits
 
-packs_side : (w d z : ℕ) (side : Side) (cs : List ℤ) → SizeFits w d z → length cs ≡ d → All (Within (bit_ends z)) cs
+packs_side : (w d z : ℕ) (side : Side) (cs : List ℤ) → SizeFits w d z → length cs ≡ d → AllByRecursion (Within (bit_ends z)) cs
     → cond (is_packed_word (2 ^ w) d (2 ^ z - 1) (word_from w d side 0 cs)) (Some (codes_in (2 ^ w) d side (word_from w d side 0 cs))) None ≡ Some cs
 packs_side w d z side cs fits len within =
     let b : ℕ = 2 ^ w in
@@ -179,7 +179,7 @@ found_side w d high side words cs e =
 -- a full group of one side, and its word
 record Unpacked (w d z : ℕ) (side : Side) (words : List ℕ) (cs : List ℤ) : Type 0 where
   pub full : length cs ≡ d
-  pub within : All (Within (bit_ends z)) cs
+  pub within : AllByRecursion (Within (bit_ends z)) cs
   pub again : word_from w d side 0 cs ∷ [] ≡ words
 
 unpacks_word : (w d z : ℕ) (side : Side) (v : ℕ) → is_packed_word (2 ^ w) d (2 ^ z - 1) v ≡ true → Unpacked w d z side (v ∷ []) (codes_in (2 ^ w) d side v)
@@ -234,7 +234,7 @@ word_filled w d side i (suc n) [] = omega (arith, word_filled w d side (i + 1) n
 word_filled w d side i n (c ∷ cs) = ap (λ (z : ℕ). unsigned_abs c * 2 ^ (w * lane_for side d i) + z) (word_filled w d side (i + 1) n cs)
 
 -- the word of codes that are few enough fits 16 bits
-pub word_small : (w d z : ℕ) (side : Side) (cs : List ℤ) → 1 ≤ d → SizeFits w d z → length cs ≤ d → All (Within (bit_ends z)) cs → word_from w d side 0 cs < 65536
+pub word_small : (w d z : ℕ) (side : Side) (cs : List ℤ) → 1 ≤ d → SizeFits w d z → length cs ≤ d → AllByRecursion (Within (bit_ends z)) cs → word_from w d side 0 cs < 65536
 word_small w d z side cs hd fits len within =
     let b : ℕ = 2 ^ w in
     let h : ℕ = 2 ^ z - 1 in
@@ -258,7 +258,7 @@ pub record Turn (w d : ℕ) (side : Side) (cs : List ℤ) (place word bits lane 
   pub next : word + (bits * 2 ^ (w * lane)) % 4294967296 + word_from w d side (place + 1) (drop (place + 1) cs) ≡ word_from w d side 0 cs
   pub small : word + (bits * 2 ^ (w * lane)) % 4294967296 < 65536
 
-pub word_turn : (w d z : ℕ) (side : Side) (cs : List ℤ) (place word bits lane : ℕ) → 1 ≤ d → SizeFits w d z → length cs ≤ d → All (Within (bit_ends z)) cs
+pub word_turn : (w d z : ℕ) (side : Side) (cs : List ℤ) (place word bits lane : ℕ) → 1 ≤ d → SizeFits w d z → length cs ≤ d → AllByRecursion (Within (bit_ends z)) cs
     → place < length cs → pos bits ≡ slice_index_or cs place (pos 0) → lane ≡ lane_for side d place
     → word + word_from w d side place (drop place cs) ≡ word_from w d side 0 cs → Turn w d side cs place word bits lane
 word_turn w d z side cs place word bits lane hd fits len within lt eb el inv =
@@ -285,9 +285,9 @@ lane_ends : (d x y : ℕ) (side : Side) → ends_on (lane_shape d x y) side ≡ 
 lane_ends d x y Weights = refl
 lane_ends d x y Activations = refl
 
-pub within_size : (s : Shape) (d x y : ℕ) → ShapeFits s d x y → (side : Side) (cs : List ℤ) → All (Within (ends_on s side)) cs → All (Within (bit_ends (size_on x y side))) cs
+pub within_size : (s : Shape) (d x y : ℕ) → ShapeFits s d x y → (side : Side) (cs : List ℤ) → AllByRecursion (Within (ends_on s side)) cs → AllByRecursion (Within (bit_ends (size_on x y side))) cs
 within_size s d x y fits side cs h =
-    subst (λ (e : Ends). All (Within e) cs) (ap (λ (t : Shape). ends_on t side) (shape_is s d x y fits) ∙ lane_ends d x y side) h
+    subst (λ (e : Ends). AllByRecursion (Within e) cs) (ap (λ (t : Shape). ends_on t side) (shape_is s d x y fits) ∙ lane_ends d x y side) h
 
 one_word : (d x y : ℕ) (side : Side) → words_on (lane_shape d x y) side ≡ 1
 one_word d x y Weights = refl

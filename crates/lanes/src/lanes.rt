@@ -1,6 +1,6 @@
 // The lanes of one word: where the codes of a group stand in it, and what is read of it.
 ghost use Rattle.std.specs.Prelude.{◌≡◌, ◌+◌, ◌-◌, ◌*◌, ◌^◌, ◌<◌, ◌≤◌, true, length, pos, ◌≤ℤ◌, slice_index_or};
-ghost use Rattle.std.specs.List.{AllByRecursion as All};
+ghost use Rattle.std.specs.List.{AllByRecursion};
 ghost use Rattle.codes.specs.Codes.{Range, Within};
 ghost use Rattle.plans.specs.Kinds.{bit_ends};
 ghost use Rattle.lanes.specs.Lanes.{lane_for, lane_of, word_from, read_lane};
@@ -51,7 +51,7 @@ impl Lanes {
     // The word of a group of codes, of which those past the end are 0.
     pub(crate) fn word(&self, side: Side, codes: &[i16]) -> u16
         requires count { length codes.now ≤ self.now.depth }
-        requires within { All (Within (bit_ends (size_on self.now.weight_size self.now.activation_size side))) codes.now }
+        requires within { AllByRecursion (Within (bit_ends (size_on self.now.weight_size self.now.activation_size side))) codes.now }
         ensures { result ≡ word_from self.now.width self.now.depth side 0 codes.now }
     {
         let mut word = 0u32;

@@ -5,7 +5,7 @@ use Rattle.std.specs.Simd.Lanes.{Each1, all_below}
 use lib.LanesLaws.{map-replicate}
 use Rattle.std.proofs.Math.Pow.{le_ones}
 use Rattle.std.specs.Int.{w16}
-use Rattle.std.specs.List.{AllByRecursion as All}
+use Rattle.std.specs.List.{AllByRecursion}
 use Rattle.std.proofs.ByRecursion.{All-weaker}
 use Rattle.std.proofs.lemmas.Simd.{Each1-weaker, Each1-from_get_or}
 use Rattle.std.proofs.lemmas.List.{map-append, length-map}
@@ -55,19 +55,19 @@ side_ends s f Weights = ends_are s.weight_ends (pos 0) (pos (2 ^ s.weight_words 
 side_ends s f Activations = ends_are s.activation_ends (pos 0) (pos (2 ^ s.activation_words - 1)) f.1.0 f.1.1
 
 -- codes within the ends of a side are codes of as many bits as the side has words
-within_bits : (s : Shape) → ShapeFits s → (side : Side) (codes : List ℤ) → All (Within (ends_on s side)) codes → All (Within (bit_ends (words_on s side))) codes
-within_bits s f side codes h = subst (λ (e : Ends). All (Within e) codes) (side_ends s f side) h
+within_bits : (s : Shape) → ShapeFits s → (side : Side) (codes : List ℤ) → AllByRecursion (Within (ends_on s side)) codes → AllByRecursion (Within (bit_ends (words_on s side))) codes
+within_bits s f side codes h = subst (λ (e : Ends). AllByRecursion (Within e) codes) (side_ends s f side) h
 
-bits_within : (s : Shape) → ShapeFits s → (side : Side) (codes : List ℤ) → All (Within (bit_ends (words_on s side))) codes → All (Within (ends_on s side)) codes
-bits_within s f side codes h = subst (λ (e : Ends). All (Within e) codes) (sym (side_ends s f side)) h
+bits_within : (s : Shape) → ShapeFits s → (side : Side) (codes : List ℤ) → AllByRecursion (Within (bit_ends (words_on s side))) codes → AllByRecursion (Within (ends_on s side)) codes
+bits_within s f side codes h = subst (λ (e : Ends). AllByRecursion (Within e) codes) (sym (side_ends s f side)) h
 
-within_more : (size more : ℕ) (codes : List ℤ) → size ≤ more → All (Within (bit_ends size)) codes → All (Within (bit_ends more)) codes
+within_more : (size more : ℕ) (codes : List ℤ) → size ≤ more → AllByRecursion (Within (bit_ends size)) codes → AllByRecursion (Within (bit_ends more)) codes
 within_more size more codes le h =
     let m : 2 ^ size ≤ 2 ^ more = pow_mono le in
     All-weaker (Within (bit_ends size)) (Within (bit_ends more)) (λ code w. (w.0, omega (arith, ints, w.1))) codes h
 
 -- and so codes of 8 bits
-pub within_bytes : (s : Shape) → ShapeFits s → (side : Side) (words : ℕ) → words ≡ words_on s side → words ≤ 8 → (codes : List ℤ) → All (Within (ends_on s side)) codes → All (Within (bit_ends 8)) codes
+pub within_bytes : (s : Shape) → ShapeFits s → (side : Side) (words : ℕ) → words ≡ words_on s side → words ≤ 8 → (codes : List ℤ) → AllByRecursion (Within (ends_on s side)) codes → AllByRecursion (Within (bit_ends 8)) codes
 within_bytes s f side words e few codes h =
     let le : words_on s side ≤ 8 = omega arith in
     within_more (words_on s side) 8 codes le (within_bits s f side codes h)
@@ -79,7 +79,7 @@ packs s f side codes g =
     let k : ℕ = words_on s side in
     let ns : List ℕ = map unsigned_abs codes in
     let ws : List ℕ = planes_from 0 k ns in
-    let within : All (Within (bit_ends (words_on s side))) codes = within_bits s f side codes g.within in
+    let within : AllByRecursion (Within (bit_ends (words_on s side))) codes = within_bits s f side codes g.within in
     let full : length (map unsigned_abs codes) ≡ s.group = length-map codes unsigned_abs ∙ g.full in
     let count : length (planes_from 0 (words_on s side) (map unsigned_abs codes)) ≡ words_on s side = length_planes 0 k ns in
     let small : Each1 (λ w. w < 2 ^ 16) (planes_from 0 (words_on s side) (map unsigned_abs codes)) = subst (λ (n : ℕ). Each1 (λ w. w < 2 ^ n) ws) (full ∙ f.2) (planes_below 0 k ns) in

@@ -1,6 +1,6 @@
 // The words of a group: plane k holds bit k of its codes, that of the code at place i at bit i.
 ghost use Rattle.std.specs.Prelude.{◌≡◌, ◌+◌, ◌*◌, ◌^◌, ◌<◌, ◌≤◌, map, length, pos, ◌≤ℤ◌, unsigned_abs};
-ghost use Rattle.std.specs.List.{AllByRecursion as All};
+ghost use Rattle.std.specs.List.{AllByRecursion};
 ghost use Rattle.codes.specs.Codes.{Within};
 ghost use Rattle.plans.specs.Kinds.{bit_ends};
 ghost use Rattle.planes.specs.Planes.{bit_at, plane, planes_from};
@@ -10,7 +10,7 @@ ghost use Rattle.planes.specs.Sums.{ones_shared, shared_from, plane_sum};
 pub(crate) fn write_planes(codes: &[i16], words: &mut [u16])
     requires words { length words.old ≤ 8 }
     requires count { length codes.now ≤ 16 }
-    requires within { All (Within (bit_ends 8)) codes.now }
+    requires within { AllByRecursion (Within (bit_ends 8)) codes.now }
     ensures { words.new ≡ planes_from 0 (length words.old) (map unsigned_abs codes.now) }
 {
     for (k, word) in words.iter_mut().enumerate() {
@@ -48,7 +48,7 @@ pub(crate) fn plane_sum(weights: &[u16], activations: &[u16]) -> u32
 fn plane_of(codes: &[i16], k: usize) -> u16
     requires plane { k < 8 }
     requires count { length codes.now ≤ 16 }
-    requires within { All (Within (bit_ends 8)) codes.now }
+    requires within { AllByRecursion (Within (bit_ends 8)) codes.now }
     ensures { result ≡ plane k (map unsigned_abs codes.now) }
 {
     let mut word = 0u32;

@@ -1,7 +1,7 @@
 -- The lane of each kind as one inequality: the steps times the most that one group adds, against the room of the lane.
 use Rattle.std.proofs.Common.{◌≡◌, ℕ, ◌-◌, ◌*◌, ◌/◌, ◌^◌, ◌<◌, ◌≤◌, List, length, get_or, replicate, ℤ, pos, neg_ℤ, ◌≤ℤ◌, refl, ap, inl, inr, div-lt_iff_lt-mul, le-div_iff_mul-le, arith}
 use lib.ListN.{length-replicate}
-use Rattle.std.specs.List.{AllByRecursion as All}
+use Rattle.std.specs.List.{AllByRecursion}
 use Rattle.std.proofs.lemmas.Int.{ints}
 use Rattle.std.proofs.lemmas.Bool.{cases_lt}
 use Rattle.std.proofs.ByRecursion.{All-get_or}
@@ -70,7 +70,7 @@ record Added (k : Kind) (r : Request) (z : ℤ) : Type 0 where
   least : neg_ℤ (pos (dip k r)) ≤ℤ z
 
 -- codes from 0: the products of a group of n pairs
-bits_add : (x y n : ℕ) (group : List Pair) → length group ≡ n → All (PairWithin (bit_ends x) (bit_ends y)) group
+bits_add : (x y n : ℕ) (group : List Pair) → length group ≡ n → AllByRecursion (PairWithin (bit_ends x) (bit_ends y)) group
     → (sum_of product group ≤ℤ pos (n * ((2 ^ x - 1) * (2 ^ y - 1)))) × (pos 0 ≤ℤ sum_of product group)
 bits_add x y n group e a =
     let P : Pair → Type 0 = PairWithin (bit_ends x) (bit_ends y) in

@@ -1,6 +1,6 @@
 -- The lanes of each kind, and codes that overflow them.
 use Rattle.std.specs.Prelude.{◌≡◌, ℕ, ◌-◌, ◌/◌, ◌^◌, ◌<◌, max, List, length, ℤ, pos, neg_ℤ, slice_index_or}
-use Rattle.std.specs.List.{AllByRecursion as All}
+use Rattle.std.specs.List.{AllByRecursion}
 use Rattle.codes.specs.Codes.{Outside}
 use Rattle.codes.specs.Sums.{Pair, product, sum_of}
 use Rattle.codes.specs.Shapes.{PairWithin}
@@ -50,7 +50,7 @@ gain Split lane group = product (slice_index_or group lane no_pair)
 -- a full group of codes within their ends
 pub record FullGroup (k : Kind) (r : Request) (group : List Pair) : Type 0 where
   pub full : length group ≡ group_size k r
-  pub within : All (PairWithin (ends_of k r.weight_size) (ends_of k r.activation_size)) group
+  pub within : AllByRecursion (PairWithin (ends_of k r.weight_size) (ends_of k r.activation_size)) group
 
 -- `steps` full groups of codes within their ends whose total leaves a lane
 pub record LaneOverflows (k : Kind) (r : Request) (steps : ℕ) : Type 0 where
@@ -58,5 +58,5 @@ pub record LaneOverflows (k : Kind) (r : Request) (steps : ℕ) : Type 0 where
   pub is_lane : lane < lanes k
   pub groups : List (List Pair)
   pub count : length groups ≡ steps
-  pub full : All (FullGroup k r) groups
+  pub full : AllByRecursion (FullGroup k r) groups
   pub outside : Outside (lane_lowest k r) (lane_highest k r) (sum_of (gain k lane) groups)

@@ -1,6 +1,6 @@
 -- The columns of an accepted feed: what its words pack, and what each group of them gains.
 use Rattle.std.proofs.Common.{◌≡◌, ℕ, zero, suc, ◌-◌, ◌*◌, ◌<◌, ◌≤◌, List, [], ◌∷◌, ◌++◌, map, length, get_or, take, drop, replicate, ℤ, pos, ◌+ℤ◌, ◌*ℤ◌, Some, None, Ok, Err, Option, Result, sym, refl, ap, ◌∙◌, subst, inl, inr, zero-add, arith}
-use Rattle.std.specs.List.{range_with_len, AllByRecursion as All}
+use Rattle.std.specs.List.{range_with_len, AllByRecursion}
 use Rattle.std.proofs.lemmas.List.FromFn.{length-map-range_with_len, get_or-map-range_with_len}
 use Rattle.std.proofs.ByRecursion.{All-get_or, All-from_get_or}
 use Rattle.std.proofs.lemmas.List.{ext_get_or, get_or-map, length-map, length-take, length-drop, take-map, drop-map}
@@ -78,8 +78,8 @@ module _ (rows n : ℕ) (W : ℕ → List ℤ) (A : List ℤ) where
       let k : i < n = omega (arith, h, length-map (columns_with rows n W A) (λ c. c.activation), count_is) in
       get_or-map (λ c. c.activation) (columns_with rows n W A) i no_column (pos 0) (omega (arith, k, count_is)) ∙ ap (λ (c : Column). c.activation) (column_is i k))
 
-  pub columns_within : (f : Facts) → f.rows ≡ rows → ((row : ℕ) → row < rows → (length (W row) ≡ n) × All (Within f.shape.weight_ends) (W row)) → (length A ≡ n) × All (Within f.shape.activation_ends) A
-      → All (ColumnWithin f) (columns_with rows n W A)
+  pub columns_within : (f : Facts) → f.rows ≡ rows → ((row : ℕ) → row < rows → (length (W row) ≡ n) × AllByRecursion (Within f.shape.weight_ends) (W row)) → (length A ≡ n) × AllByRecursion (Within f.shape.activation_ends) A
+      → AllByRecursion (ColumnWithin f) (columns_with rows n W A)
   columns_within f e w a =
       All-from_get_or (ColumnWithin f) (columns_with rows n W A) no_column
       (λ i h.
@@ -171,7 +171,7 @@ module _ (packed : Packing) (u : Unpacking) (f : Facts) (packs : Packs packed u 
     all_activations : map (λ c. c.activation) columns ≡ A
     all_activations = activations_are f.rows n W A activations_pack.count
 
-    pub columns_fit : All (ColumnWithin f) columns
+    pub columns_fit : AllByRecursion (ColumnWithin f) columns
     columns_fit = columns_within f.rows n W A f refl (λ row l. ((row_packs row l).count, (row_packs row l).within)) (activations_pack.count, activations_pack.within)
 
     -- the words of the feed are the packing of its columns

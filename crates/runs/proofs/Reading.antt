@@ -2,7 +2,7 @@
 use Rattle.std.proofs.Common.{◌≡◌, ℕ, suc, ◌+◌, ◌-◌, ◌*◌, ◌/◌, ◌^◌, ◌<◌, ◌≤◌, ◌⊎◌, List, [], ◌∷◌, length, ℤ, pos, negsuc, ◌+ℤ◌, ◌-ℤ◌, ◌*ℤ◌, neg_ℤ, sym, refl, ap, ◌∙◌, inl, inr, mul-le-mul_left, arith, w32, w64, SFits}
 use lib.IntN.{zero-*ℤ, *ℤ-zero, suc_ℤ-*ℤ}
 use lib.ListN.{length-map}
-use Rattle.std.specs.List.{AllByRecursion as All}
+use Rattle.std.specs.List.{AllByRecursion}
 use Rattle.std.specs.Int.{int_wrap}
 use Rattle.std.proofs.lemmas.Int.{ints, int_wrap_fits}
 use Rattle.std.proofs.lemmas.Bool.{cases_lt}
@@ -60,11 +60,11 @@ fits_or : (z : ℤ) → SFits w32 z ⊎ Outside (neg_ℤ (pos (2 ^ 31))) (pos (2
 fits_or (pos n) = elim (cases_lt n 2147483648) [ inl l ↦ inl (record { sfits = l }) | inr l ↦ inr (inr (omega (arith, ints))) ]
 fits_or (negsuc n) = elim (cases_lt n 2147483648) [ inl l ↦ inl (record { sfits = l }) | inr l ↦ inr (inl (omega (arith, ints))) ]
 
-pairs_within : (f : Facts) (row : ℕ) (columns : List Column) → row < f.rows → All (ColumnWithin f) columns → All (PairWithin f.shape.weight_ends f.shape.activation_ends) (row_of row columns)
+pairs_within : (f : Facts) (row : ℕ) (columns : List Column) → row < f.rows → AllByRecursion (ColumnWithin f) columns → AllByRecursion (PairWithin f.shape.weight_ends f.shape.activation_ends) (row_of row columns)
 pairs_within f row [] l w = tt
 pairs_within f row (c ∷ cs) l w = (record { weight = weight_within f row c l w.0; activation = w.0.activation }, pairs_within f row cs l w.1)
 
-sum_fits : (f : Facts) (row : ℕ) (columns : List Column) → row < f.rows → All (ColumnWithin f) columns → length columns ≤ f.longest → SFits w32 (exact_sum f.zeros (row_of row columns))
+sum_fits : (f : Facts) (row : ℕ) (columns : List Column) → row < f.rows → AllByRecursion (ColumnWithin f) columns → length columns ≤ f.longest → SFits w32 (exact_sum f.zeros (row_of row columns))
 sum_fits f row columns l w few =
     elim (fits_or (exact_sum f.zeros (row_of row columns))) [
       | inl fits ↦ fits

@@ -1,7 +1,7 @@
 -- Settling row after row.
 use Rattle.std.proofs.Common.{◌≡◌, ℕ, ◌+◌, ◌*◌, ◌/◌, ◌%◌, ◌<◌, ◌≤◌, min, ◌∷◌, length, take, set, ℤ, pos, ◌+ℤ◌, sym, refl, ap, ◌∙◌, subst, inl, inr, mod-eq_of_lt, add-mul, mul-le-mul, one-mul, zero-mul, mul-add, arith, get_or-set_other, get_or-set_same, w64, below_more}
 use native.Mathlib.Nat.{zero-mod, zero-div}
-use Rattle.std.specs.List.{AllByRecursion as All}
+use Rattle.std.specs.List.{AllByRecursion}
 use Rattle.std.specs.Int.{int_wrap}
 use Rattle.std.proofs.lemmas.Int.{ints, int_wrap_fits}
 use Rattle.std.proofs.lemmas.Bool.{cases_lt}
@@ -162,7 +162,7 @@ module _ (m : Meaning) (k : Kept) (s : Story) (t : Tells m k s) where
       ∙ ap (λ y. m.facts.rows * y) (let e : (L / m.facts.interval + S) + min 1 left ≡ 0 / m.facts.interval + (groups m.facts.interval L + S) = omega arith in e) in
       record {
         tells = record {
-          within = subst (λ (x : Facts). All (ColumnWithin x) (columns_of s)) (sym same) t.within;
+          within = subst (λ (x : Facts). AllByRecursion (ColumnWithin x) (columns_of s)) (sym same) t.within;
           few = omega (arith, t.few, ap (λ (x : Facts). x.longest) same);
           steps = λ r l. (h.done r (omega arith)).1 ∙ sym (zero-mod n.facts.interval);
           total = λ r l. (h.done r (omega arith)).0 ∙ sym (none_left r (0 % n.facts.interval));

@@ -1,7 +1,7 @@
 -- The pass over the rows of an accepted feed.
 use Rattle.std.proofs.Common.{◌≡◌, ℕ, zero, suc, ◌+◌, ◌-◌, ◌*◌, ◌/◌, ◌%◌, ◌<◌, ◌≤◌, List, [], ◌∷◌, ◌++◌, map, length, get_or, take, drop, ℤ, pos, ◌+ℤ◌, ◌-ℤ◌, Ok, sym, refl, ap, ◌∙◌, subst, mod-lt, mod-eq_of_lt, suc-mul, mul-le-mul, suc-add, le-div_iff_mul-le, zero-add, zero-mul, mul-add, div-mul-le_self, arith, length-append, get_or-set_other, get_or-set_same, w64, below_more}
 use lib.ListN.{length-map}
-use Rattle.std.specs.List.{AllByRecursion as All}
+use Rattle.std.specs.List.{AllByRecursion}
 use Rattle.std.specs.Int.{int_wrap}
 use Rattle.std.proofs.ByRecursion.{All-append}
 use Rattle.std.proofs.lemmas.List.{take-map, take_all}
@@ -126,7 +126,7 @@ module _ (m : Meaning) (k : Kept) (s : Story) (t : Tells m k s) (packed : Packin
   long : length cs ≡ n
   long = count_is m.facts.rows n _ _
 
-  within : All (ColumnWithin m.facts) (cs ++ columns_of s)
+  within : AllByRecursion (ColumnWithin m.facts) (cs ++ columns_of s)
   within = All-append (ColumnWithin m.facts) cs (columns_of s) (columns_fit packed u m.facts packs unpacks k.accepted n weights activations found) t.within
 
   few : length (cs ++ columns_of s) ≤ m.facts.longest
@@ -314,7 +314,7 @@ module _ (m : Meaning) (k : Kept) (s : Story) (t : Tells m k s) (packed : Packin
         let same = h.facts in
         let rows_same : a.facts.rows ≡ m.facts.rows = ap (λ (x : Facts). x.rows) same in
         record {
-          within = subst (λ (x : Facts). All (ColumnWithin x) (cs ++ columns_of s)) (sym same) within;
+          within = subst (λ (x : Facts). AllByRecursion (ColumnWithin x) (cs ++ columns_of s)) (sym same) within;
           few = omega (arith, few, ap (λ (x : Facts). x.longest) same);
           steps = λ r l. subst (λ (x : Facts). a.steps r ≡ length (open_groups x.shape.group S) % x.interval) (sym same) (h.done r (omega arith)).0;
           total = λ r l. subst (λ (x : Facts). a.total r ≡ sum_of (products r) (since_drain x.shape.group x.interval S)) (sym same) (h.done r (omega arith)).1;

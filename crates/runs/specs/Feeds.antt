@@ -1,6 +1,6 @@
 -- What a feed answers, and the columns that its words pack.
 use Rattle.std.specs.Prelude.{◌≡◌, ℕ, zero, suc, ◌+◌, ◌*◌, ◌<◌, List, [], map, length, get_or, take, drop, ℤ, pos, Some, None, Ok, Err, Option, Result, ◌==◌, nat_le, slice_index_or}
-use Rattle.std.specs.List.{range_with_len, AllByRecursion as All}
+use Rattle.std.specs.List.{range_with_len, AllByRecursion}
 use Rattle.codes.specs.declared.facts.Facts.{Facts}
 use Rattle.codes.specs.declared.shape.Shape.{Shape}
 use Rattle.codes.specs.declared.side.Side.TheVariants.{Weights as OfWeights, Activations as OfActivations}
@@ -87,13 +87,13 @@ weight_at row c = slice_index_or c.weights row (pos 0)
 -- one weight code for each row and one activation code, all within their ends
 pub record ColumnWithin (f : Facts) (c : Column) : Type 0 where
   pub rows : length c.weights ≡ f.rows
-  pub weights : All (Within f.shape.weight_ends) c.weights
+  pub weights : AllByRecursion (Within f.shape.weight_ends) c.weights
   pub activation : Within f.shape.activation_ends c.activation
 
 -- the words of a feed are the packing of these n columns
 pub record PacksColumns (packed : Packing) (f : Facts) (n : ℕ) (weights activations : List ℕ) (columns : List Column) : Type 0 where
   pub count : length columns ≡ n
-  pub within : All (ColumnWithin f) columns
+  pub within : AllByRecursion (ColumnWithin f) columns
   pub weight_words : (row : ℕ) → row < f.rows → packed_list packed f.shape OfWeights (map (weight_at row) columns) ≡ row_words f.shape n weights row
   pub activation_words : packed_list packed f.shape OfActivations (map (λ c. c.activation) columns) ≡ activations
 

@@ -1,6 +1,6 @@
 -- When a kernel and what a run keeps beside it tell a story.
 use Rattle.std.specs.Prelude.{◌≡◌, ℕ, ◌+◌, ◌*◌, ◌/◌, ◌%◌, ◌<◌, ◌≤◌, List, [], length, replicate, ℤ, pos, ◌+ℤ◌, slice_index_or}
-use Rattle.std.specs.List.{AllByRecursion as All}
+use Rattle.std.specs.List.{AllByRecursion}
 use Rattle.codes.specs.declared.facts.Facts.{Facts}
 use Rattle.codes.specs.Sums.{Column, sum_of, product, pair_at, row_of, exact_sum}
 use Rattle.kernels.specs.Meanings.{Meaning}
@@ -34,7 +34,7 @@ record_at k row = slice_index_or k.rows row empty_record
 
 -- the kernel holds the groups since each row's last drain, and the run keeps all the rest
 pub record Tells (m : Meaning) (k : Kept) (s : Story) : Type 0 where
-  pub within : All (ColumnWithin m.facts) (columns_of s)
+  pub within : AllByRecursion (ColumnWithin m.facts) (columns_of s)
   pub few : length (columns_of s) ≤ m.facts.longest
   -- the kernel
   pub steps : (row : ℕ) → row < m.facts.rows → m.steps row ≡ length (open_groups m.facts.shape.group s) % m.facts.interval

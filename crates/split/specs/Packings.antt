@@ -1,7 +1,7 @@
 -- Packing and unpacking a group undo each other.
 use Rattle.std.specs.Prelude.{◌≡◌, ℕ, zero, suc, ◌+◌, ◌-◌, ◌*◌, ◌<◌, Bool, true, cond, List, [], ◌∷◌, length, get_or, ℤ, pos, neg_ℤ, ◌≤ℤ◌, is_some, Some, None, Ok, nat_lt, slice_index, slice_index_or, slice_set, refl}
 use Rattle.std.proofs.Common.{sym, ap, subst, ◌∙◌, arith}
-use Rattle.std.specs.List.{AllByRecursion as All}
+use Rattle.std.specs.List.{AllByRecursion}
 use Rattle.std.proofs.lemmas.Int.{ints}
 use Rattle.std.proofs.ByRecursion.{All-weaker}
 use Rattle.std.proofs.lemmas.Bool.{and_parts, and_from, cond-true, ltb-true, lt-ltb}
@@ -43,7 +43,7 @@ within_byte e fits code w =
     let l = fits.2 in
     (omega (arith, ints), omega (arith, ints))
 
-pub all_bytes : (s : Shape) → ShapeFits s → (side : Side) (codes : List ℤ) → All (Within (ends_on s side)) codes → All InByte codes
+pub all_bytes : (s : Shape) → ShapeFits s → (side : Side) (codes : List ℤ) → AllByRecursion (Within (ends_on s side)) codes → AllByRecursion InByte codes
 all_bytes s fits side codes h = All-weaker (Within (ends_on s side)) InByte (within_byte (ends_on s side) (ends_fit s fits side)) codes h
 
 -- ---- the bytes of a word
@@ -79,7 +79,7 @@ unpacks_two e first second word wf ws p =
     let passes : is_packed_word e word ≡ true = and_from (nat_lt word 65536) _ (lt-ltb word 65536 p.below) (and_from _ _ hf hs) in
     cond-true (is_packed_word e word) _ _ passes ∙ ap (λ (z : ℤ). Some (z ∷ code_at 1 word ∷ [])) p.first_is ∙ ap (λ (z : ℤ). Some (first ∷ z ∷ [])) p.second_is
 
-packs_side : (s : Shape) → ShapeFits s → (side : Side) (codes : List ℤ) → length codes ≡ 2 → All (Within (ends_on s side)) codes
+packs_side : (s : Shape) → ShapeFits s → (side : Side) (codes : List ℤ) → length codes ≡ 2 → AllByRecursion (Within (ends_on s side)) codes
     → unpacked_split s side (packed_split s side codes) ≡ Some codes
 packs_side s fits side [] full h = absurd (omega arith)
 packs_side s fits side (first ∷ []) full h = absurd (omega arith)
@@ -96,7 +96,7 @@ packs s fits side codes g = (sym (one_word s fits side), packs_side s fits side 
 pub record Found (e : Ends) (words : List ℕ) (codes : List ℤ) : Type 0 where
   pub one : words ≡ slice_index words 0 ∷ []
   pub below : get_or words 0 0 < 65536
-  pub within : All (Within e) (codes_in (slice_index words 0))
+  pub within : AllByRecursion (Within e) (codes_in (slice_index words 0))
   pub codes_are : codes ≡ codes_in (slice_index words 0)
 
 pub found : (s : Shape) (side : Side) (words : List ℕ) (codes : List ℤ) → unpacked_split s side words ≡ Some codes → Found (ends_on s side) words codes

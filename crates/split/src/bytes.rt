@@ -1,6 +1,6 @@
 // The bytes of a word: each holds a code in two's complement, the first code in the low byte.
 ghost use Rattle.std.specs.Prelude.{◌≡◌, ◌<◌, pos, slice_index_or};
-ghost use Rattle.std.specs.List.{AllByRecursion as All};
+ghost use Rattle.std.specs.List.{AllByRecursion};
 ghost use Rattle.split.specs.Bytes.{InByte, byte_code, code_byte, byte_at, code_at};
 ghost use Rattle.split.specs.Words.{word_of, is_packed_word};
 
@@ -8,7 +8,7 @@ use codes::ends::Ends;
 
 // The word of a group: the first code in the low byte, the second in the high byte.
 pub(crate) fn word_of(codes: &[i16]) -> u16
-    requires { All InByte codes.now }
+    requires { AllByRecursion InByte codes.now }
     ensures { result ≡ word_of codes.now }
 {
     packed_byte(codes, 0) as u16 + 256 * (packed_byte(codes, 1) as u16)
@@ -16,7 +16,7 @@ pub(crate) fn word_of(codes: &[i16]) -> u16
 
 // The byte of the code at a place of a group. Past its end stands code 0.
 fn packed_byte(codes: &[i16], place: usize) -> u8
-    requires { All InByte codes.now }
+    requires { AllByRecursion InByte codes.now }
     ensures { result ≡ code_byte (slice_index_or codes.now place (pos 0)) }
 {
     if place < codes.len() {

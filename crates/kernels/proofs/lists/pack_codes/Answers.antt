@@ -1,6 +1,6 @@
 -- What a packing that no question refuses ensures.
 use Rattle.std.proofs.Common.{◌≡◌, length, Ok, ap, ◌∙◌, subst}
-use Rattle.std.specs.List.{AllByRecursion as All}
+use Rattle.std.specs.List.{AllByRecursion}
 use Rattle.codes.specs.declared.facts.Facts.{Facts}
 use Rattle.codes.specs.declared.shape.Shape.{Shape}
 use Rattle.codes.specs.Codes.{Within, groups}
@@ -20,7 +20,7 @@ returns g c =
     let codes = c.args.codes.now in
     let P : Facts → Type 0 = λ f. Ok tt ≡ pack_list_answer f.shape side codes (length c.args.words.now) in
     let answer : g.K.Kernel.sound k → Ok tt ≡ pack_list_answer S side codes (length c.args.words.now) = λ s. subst P (c.facts-facts.ensures s) c.in_ok-may_pack.ensures in
-    let within : g.K.Kernel.sound k → All (Within (ends_on S side)) codes = λ s. packed_within 65536 (words_for S side (length codes)) S side codes (length c.args.words.now) (answer s) in
+    let within : g.K.Kernel.sound k → AllByRecursion (Within (ends_on S side)) codes = λ s. packed_within 65536 (words_for S side (length codes)) S side codes (length c.args.words.now) (answer s) in
     record {
       answer = answer;
       after = λ s. c.write_groups.ensures s (c.facts-facts.ensures s) (within s);
