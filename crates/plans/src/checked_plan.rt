@@ -6,7 +6,7 @@ ghost use Rattle.plans.specs.declared.kind.Kind.TheVariants.{P1, P2, Planes, Spl
 ghost use Rattle.plans.specs.declared.request.Request.{Request};
 ghost use Rattle.plans.specs.Answers.{Answered, RangesHold, CodesFit, LaneHolds};
 ghost use Rattle.plans.specs.Plans.{FactsOf};
-ghost use Rattle.std.proofs.Common.{rules, arith};
+ghost use Rattle.std.proofs.Common.{rules};
 
 use crate::check::answer;
 use crate::kind::Kind;
@@ -61,11 +61,11 @@ impl CheckedPlan for P1Plan {
 
     ghost given = { λ plan. plan.numbers };
 
-    ghost ranges = { first_of (Prim.search rules, Prim.grind (arith, Self.row.coded.inj)) };
+    ghost ranges = { Prim.search rules };
 
-    ghost codes = { first_of (Prim.search rules, Prim.grind (arith, Self.row.coded.inj)) };
+    ghost codes = { Prim.search rules };
 
-    ghost lane = { first_of (Prim.search rules, Prim.grind (arith, Self.row.coded.inj)) };
+    ghost lane = { Prim.search rules };
 
     fn check(request: &Request) -> Result<P1Plan, PlanRefusal> {
         let numbers = answer(Kind::P1, request)?;
@@ -86,11 +86,11 @@ impl CheckedPlan for P2Plan {
 
     ghost given = { λ plan. plan.numbers };
 
-    ghost ranges = { first_of (Prim.search rules, Prim.grind (arith, Self.row.coded.inj)) };
+    ghost ranges = { Prim.search rules };
 
-    ghost codes = { first_of (Prim.search rules, Prim.grind (arith, Self.row.coded.inj)) };
+    ghost codes = { Prim.search rules };
 
-    ghost lane = { first_of (Prim.search rules, Prim.grind (arith, Self.row.coded.inj)) };
+    ghost lane = { Prim.search rules };
 
     fn check(request: &Request) -> Result<P2Plan, PlanRefusal> {
         let numbers = answer(Kind::P2, request)?;
@@ -111,11 +111,11 @@ impl CheckedPlan for PlanesPlan {
 
     ghost given = { λ plan. plan.numbers };
 
-    ghost ranges = { first_of (Prim.search rules, Prim.grind (arith, Self.row.coded.inj)) };
+    ghost ranges = { Prim.search rules };
 
-    ghost codes = { first_of (Prim.search rules, Prim.grind (arith, Self.row.coded.inj)) };
+    ghost codes = { Prim.search rules };
 
-    ghost lane = { first_of (Prim.search rules, Prim.grind (arith, Self.row.coded.inj)) };
+    ghost lane = { Prim.search rules };
 
     fn check(request: &Request) -> Result<PlanesPlan, PlanRefusal> {
         let numbers = answer(Kind::Planes, request)?;
@@ -136,11 +136,11 @@ impl CheckedPlan for SplitPlan {
 
     ghost given = { λ plan. plan.numbers };
 
-    ghost ranges = { first_of (Prim.search rules, Prim.grind (arith, Self.row.coded.inj)) };
+    ghost ranges = { Prim.search rules };
 
-    ghost codes = { first_of (Prim.search rules, Prim.grind (arith, Self.row.coded.inj)) };
+    ghost codes = { Prim.search rules };
 
-    ghost lane = { first_of (Prim.search rules, Prim.grind (arith, Self.row.coded.inj)) };
+    ghost lane = { Prim.search rules };
 
     fn check(request: &Request) -> Result<SplitPlan, PlanRefusal> {
         let numbers = answer(Kind::Split, request)?;
