@@ -6,7 +6,7 @@ use Rattle.std.proofs.lemmas.Int.{to_z_pos, to_z-of_z}
 use Rattle.std.proofs.lemmas.Bool.{lt-ltb, cond-true}
 use Rattle.codes.specs.declared.facts.Facts.{Facts}
 use Rattle.kernels.specs.declared.refusal.StepRefusal.{StepRefusal}
-use Rattle.kernels.specs.Answers.{row_answer}
+use Rattle.kernels.specs.Answers.{row_answer, total_after, steps_after}
 use Rattle.kernels.specs.Meanings.{OthersKept, Stepped, Drained}
 use Rattle.kernels.specs.Tables.{table_means}
 
@@ -24,8 +24,8 @@ module _ {R : Type 0} (empty : R) where
   table_fill P (suc count) h zero = h
   table_fill P (suc count) h (suc j) = table_fill P count h j
 
--- a kernel whose rows stand in a table of records that all keep to something
-module _ {R : Type 0} (empty : R) (total : R → ℤ) (steps : R → ℕ) (Holds : R → Type 0) (facts : Facts) (rows : List R) (row : ℕ) where
+-- a kernel whose rows stand in a table
+module _ {R : Type 0} (empty : R) (total : R → ℤ) (steps : R → ℕ) (facts : Facts) (rows : List R) (row : ℕ) where
   others : (new : R) → OthersKept row (table_means empty total steps facts rows) (table_means empty total steps facts (set rows row new))
   others new =
       record {
@@ -34,37 +34,60 @@ module _ {R : Type 0} (empty : R) (total : R → ℤ) (steps : R → ℕ) (Holds
         steps = λ other h. ap steps (get_or-set_other rows row other new empty h);
       }
 
-  -- a new record is put in, with the gain of a step in its total, and one step more
+  -- one record is put in, with the total and the steps that a step leaves
+  pub table_stepped : (new : R) (gain : Result ℤ StepRefusal) → row < length rows
+      → total new ≡ total_after gain (total (get_or rows row empty)) → steps new ≡ steps_after gain (steps (get_or rows row empty))
+      → Stepped row gain (table_means empty total steps facts rows) (table_means empty total steps facts (set rows row new))
+  table_stepped new gain h t s =
+      let same = get_or-set_same rows row new empty h in
+      record { others = others new; total = ap total same ∙ t; steps = ap steps same ∙ s }
+
+  -- one record is put in, with total and steps 0
+  pub table_drained : (new : R) → row < length rows → row < 64 → total new ≡ pos 0 → steps new ≡ 0
+      → Drained row (table_means empty total steps facts rows) (table_means empty total steps facts (set rows row new))
+  table_drained new h lt t s =
+      let same = get_or-set_same rows row new empty h in
+      let there : ltb row 64 ≡ true = lt-ltb row 64 lt in
+      record {
+        others = others new;
+        total = ap total same ∙ t ∙ sym (cond-true (ltb row 64) (pos 0) (total (get_or rows row empty)) there);
+        steps = ap steps same ∙ s ∙ sym (cond-true (ltb row 64) 0 (steps (get_or rows row empty)) there);
+      }
+
+-- a kernel of 64 rows whose records all keep to something
+module _ {R : Type 0} (empty : R) (total : R → ℤ) (steps : R → ℕ) (Holds : R → Type 0) (facts : Facts) (rows : List R) (row : ℕ) where
+  -- a new record is put in, with the total and the steps that a step leaves
   pub record TableStepped (gain : Result ℤ StepRefusal) (new : R) : Type 0 where
     pub holds : (j : ℕ) → Holds (get_or (set rows row new) j empty)
     pub after : Stepped row gain (table_means empty total steps facts rows) (table_means empty total steps facts (set rows row new))
 
-  pub table_stepped : (gain : Result ℤ StepRefusal) (z : ℤ) (new : R) → gain ≡ Ok z → length rows ≡ 64 → row < 64 → ((j : ℕ) → Holds (get_or rows j empty)) → Holds new
-      → total new ≡ total (get_or rows row empty) +ℤ z → steps new ≡ steps (get_or rows row empty) + 1 → TableStepped gain new
-  table_stepped gain z new g all lt hold holds t s =
-      let same = get_or-set_same rows row new empty (omega arith) in
+  pub table_steps : (gain : Result ℤ StepRefusal) (new : R) → length rows ≡ 64 → row < 64 → ((j : ℕ) → Holds (get_or rows j empty)) → Holds new
+      → total new ≡ total_after gain (total (get_or rows row empty)) → steps new ≡ steps_after gain (steps (get_or rows row empty)) → TableStepped gain new
+  table_steps gain new all lt hold holds t s =
       record {
         holds = table_set empty Holds rows row new holds hold;
-        after = rw g (record { others = others new; total = ap total same ∙ t; steps = ap steps same ∙ s });
+        after = table_stepped empty total steps facts rows row new gain (omega arith) t s;
       }
+
+  -- where the step gains so much
+  pub table_gains : (gain : Result ℤ StepRefusal) (z : ℤ) (new : R) → gain ≡ Ok z → length rows ≡ 64 → row < 64 → ((j : ℕ) → Holds (get_or rows j empty)) → Holds new
+      → total new ≡ total (get_or rows row empty) +ℤ z → steps new ≡ steps (get_or rows row empty) + 1 → TableStepped gain new
+  table_gains gain z new g all lt hold holds t s =
+      table_steps gain new all lt hold holds
+      (t ∙ sym (ap (λ (r : Result ℤ StepRefusal). total_after r (total (get_or rows row empty))) g))
+      (s ∙ sym (ap (λ (r : Result ℤ StepRefusal). steps_after r (steps (get_or rows row empty))) g))
 
   -- a new record is put in, with total and steps 0
   pub record TableDrained (new : R) : Type 0 where
     pub holds : (j : ℕ) → Holds (get_or (set rows row new) j empty)
     pub after : Drained row (table_means empty total steps facts rows) (table_means empty total steps facts (set rows row new))
 
-  pub table_drained : (new : R) → length rows ≡ 64 → row < 64 → ((j : ℕ) → Holds (get_or rows j empty)) → Holds new
+  pub table_drains : (new : R) → length rows ≡ 64 → row < 64 → ((j : ℕ) → Holds (get_or rows j empty)) → Holds new
       → total new ≡ pos 0 → steps new ≡ 0 → TableDrained new
-  table_drained new all lt hold holds t s =
-      let same = get_or-set_same rows row new empty (omega arith) in
-      let there : ltb row 64 ≡ true = lt-ltb row 64 lt in
+  table_drains new all lt hold holds t s =
       record {
         holds = table_set empty Holds rows row new holds hold;
-        after = record {
-          others = others new;
-          total = ap total same ∙ t ∙ sym (cond-true (ltb row 64) (pos 0) (total (get_or rows row empty)) there);
-          steps = ap steps same ∙ s ∙ sym (cond-true (ltb row 64) 0 (steps (get_or rows row empty)) there);
-        };
+        after = table_drained empty total steps facts rows row new (omega arith) lt t s;
       }
 
 -- a table of empty records means totals and steps 0

@@ -1,18 +1,13 @@
 -- A step and a drain of the rows of a kernel of lanes, whatever record a row is.
-use Rattle.std.proofs.Common.{◌≡◌, ℕ, ◌+◌, ◌*◌, ◌%◌, ◌^◌, ◌<◌, List, reverse, length, get_or, ℤ, pos, Ok, ap, ◌∙◌, subst}
-use lib.Lanes.{digits_l}
-use Rattle.codes.specs.declared.side.Side.TheVariants.{Weights, Activations}
+use Rattle.std.proofs.Common.{◌≡◌, ℕ, ◌+◌, ◌*◌, ◌%◌, ◌^◌, ◌<◌, List, length, get_or, ℤ, pos, ap}
 use Rattle.codes.specs.declared.facts.Facts.{Facts}
 use Rattle.kernels.specs.Answers.{step_gain}
 use Rattle.kernels.specs.Allowed.{StepAllowed}
-use Rattle.kernels.proofs.Gains.{gain_is}
-use Rattle.kernels.proofs.Naturals.{dot_pos}
-use Rattle.kernels.proofs.Tables.{TableStepped, table_stepped, TableDrained, table_drained}
+use Rattle.kernels.proofs.Tables.{TableStepped, table_steps, TableDrained, table_drains}
 use Rattle.lanes.specs.declared.lanes.Lanes.{Lanes}
 use Rattle.lanes.specs.Lanes.{read_lane}
 use Rattle.lanes.specs.Words.{unpacked_lanes}
 use Rattle.lanes.specs.Rows.{most_of, RowHolds}
-use Rattle.lanes.proofs.Reading.{found}
 use Rattle.lanes.proofs.Stepping.{Kept, next_row, empty_reads, empty_holds}
 
 -- the total that a row means, and what holds of it
@@ -61,22 +56,12 @@ module _ {bits : ℕ} {R : Type 0} (k : LaneKernel bits R) (row : ℕ) (new : R)
   lanes_step weights activations asked es ea =
       let l = k.lanes in
       let f = k.facts in
-      let w = l.width in
-      let d = l.depth in
-      let x = l.weight_size in
-      let y = l.activation_size in
       let old = get_or k.rows row k.empty in
-      let v = get_or weights 0 0 in
-      let a = get_or activations 0 0 in
-      let fw = found f.shape w d x y k.kept.shape Weights weights asked.weight_codes asked.weights_are in
-      let fa = found f.shape w d x y k.kept.shape Activations activations asked.activation_codes asked.activations_are in
-      let gain = gain_is (unpacked_lanes w f.shape) f row (k.steps old) weights activations asked _ _ fw.codes_are fa.codes_are
-      ∙ ap (λ (z : ℤ). Ok z) (dot_pos (reverse (digits_l (2 ^ w) d v)) (digits_l (2 ^ w) d a)) in
-      let n = next_row bits f w d x y k.kept (k.steps old) (k.accumulator old) (k.steps new) (k.accumulator new) v a fw.is_word fa.is_word (k.hold row) asked.below es ea in
-      subst (λ (u : ℕ). StepsTo u weights activations) k.width_is
-      (table_stepped k.empty _ k.steps _ f k.rows row _ _ new gain all asked.row_lt k.hold n.holds (ap pos n.total) es)
+      let n = next_row bits f l.width k.width l.depth l.weight_size l.activation_size k.kept k.width_is row (k.steps old) (k.accumulator old)
+      (k.steps new) (k.accumulator new) weights activations asked (k.hold row) es ea in
+      table_steps k.empty _ k.steps _ f k.rows row _ new all asked.row_lt k.hold n.holds n.total n.steps
 
   pub lanes_drain : row < 64 → k.steps new ≡ 0 → k.accumulator new ≡ 0 → DrainsTo
   lanes_drain lt es ea =
-      table_drained k.empty _ k.steps _ k.facts k.rows row new all lt k.hold
+      table_drains k.empty _ k.steps _ k.facts k.rows row new all lt k.hold
       (holds_none k.steps k.accumulator k.facts k.lanes new ea es) (total_none k.steps k.accumulator k.facts k.lanes new ea) es

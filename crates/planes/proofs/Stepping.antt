@@ -9,7 +9,7 @@ use Rattle.kernels.specs.Answers.{step_gain}
 use Rattle.kernels.specs.Allowed.{StepAllowed}
 use Rattle.kernels.proofs.Gains.{gain_is}
 use Rattle.kernels.proofs.Naturals.{dot_n, dot_most}
-use Rattle.kernels.proofs.Tables.{table_set, TableStepped, table_stepped}
+use Rattle.kernels.proofs.Tables.{table_set, TableStepped, table_gains}
 use Rattle.planes.specs.declared.planes.Planes.{Planes}
 use Rattle.planes.specs.declared.planes_row.PlanesRow.{PlanesRow}
 use Rattle.planes.specs.Planes.{planes_from, unpacked_planes}
@@ -75,7 +75,7 @@ module _ (k : Planes) (row sum : ℕ) (ws ys : List ℕ) (asked : StepAllowed (u
       let most : ℕ = most_of k.facts.shape in
       let g : step_gain (unpacked_planes k.facts.shape) k.facts row old.steps ws ys ≡ Ok (pos sum) = (gained k.facts k.shape_rule row old.steps ws ys asked).gains ∙ ap (λ (n : ℕ). Ok (pos n)) (sym is) in
       let holds : RowHolds most new = subst (λ (n : ℕ). n ≤ new.steps * most) (sym el) (subst (λ (n : ℕ). old.lane + sum ≤ n * most) (sym es) step_room.most) in
-      table_stepped empty_row _ _ _ k.facts k.rows row _ (pos sum) new g all asked.row_lt k.rows_rule holds (ap pos el) es
+      table_gains empty_row _ _ _ k.facts k.rows row _ (pos sum) new g all asked.row_lt k.rows_rule holds (ap pos el) es
 
 -- ---- a drain
 

@@ -4,7 +4,7 @@ use Rattle.std.proofs.lemmas.Int.{ints}
 use Rattle.codes.specs.declared.facts.Facts.{Facts}
 use Rattle.kernels.specs.Answers.{step_gain}
 use Rattle.kernels.specs.Allowed.{StepAllowed}
-use Rattle.kernels.proofs.Tables.{TableStepped, table_stepped, TableDrained, table_drained}
+use Rattle.kernels.proofs.Tables.{TableStepped, table_gains, TableDrained, table_drains}
 use Rattle.split.specs.declared.split.Split.{Split}
 use Rattle.split.specs.declared.split_row.SplitRow.{SplitRow}
 use Rattle.split.specs.Words.{unpacked_split}
@@ -36,7 +36,7 @@ module _ (k : Split) (row : ℕ) (weights activations : List ℕ)
       let old = get_or k.rows row empty_row in
       let gain = step_gain_is k.facts (kept k) row old weights activations (k.rows_rule row) allowed in
       let holds = next_row k.facts (kept k) row old weights activations (k.rows_rule row) allowed new es ef eg in
-      table_stepped empty_row row_total _ _ k.facts k.rows row _ _ new gain all allowed.row_lt k.rows_rule holds (omega (arith, ints)) es
+      table_gains empty_row row_total _ _ k.facts k.rows row _ _ new gain all allowed.row_lt k.rows_rule holds (omega (arith, ints)) es
 
 -- ---- a drain
 
@@ -46,4 +46,4 @@ cleared f r es ef eg = (omega arith, (omega (arith, ints), omega (arith, ints)),
 pub drain_table : (k : Split) (row : ℕ) (new : SplitRow) → length k.rows ≡ 64 → row < 64 → new.steps ≡ 0 → new.first ≡ pos 0 → new.second ≡ pos 0
     → TableDrained empty_row row_total (λ r. r.steps) (Holds k.facts) k.facts k.rows row new
 drain_table k row new all lt es ef eg =
-    table_drained empty_row row_total _ _ k.facts k.rows row new all lt k.rows_rule (cleared k.facts new es ef eg) (omega (arith, ints)) es
+    table_drains empty_row row_total _ _ k.facts k.rows row new all lt k.rows_rule (cleared k.facts new es ef eg) (omega (arith, ints)) es
