@@ -98,3 +98,8 @@ pub record Figures : Type 0 where
 pub record WordFigures : Type 0 where
   pub planes : BitPlaneFigure (shape_of Planes (asks 2 1 16 0 1)) (pos 3 ∷ pos 1 ∷ pos 2 ∷ []) (pos 1 ∷ pos 0 ∷ pos 1 ∷ []) (3 ∷ 5 ∷ []) (5 ∷ []) 5
   pub split : SplitFigure (shape_of Split (asks 11 11 2 0 1)) (neg_ℤ (pos 3) ∷ pos 5 ∷ []) 1533
+
+-- all of them
+pub record AllFigures : Type 0 where
+  pub figures : Figures
+  pub words : WordFigures

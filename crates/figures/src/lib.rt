@@ -1,14 +1,16 @@
-// The worked figures of the rules, as one statement.
+// The worked figures of the rules, of the definitions that the contracts use.
 #![tactic(auto)]
 
-ghost use Rattle.figures.specs.Figures.{Figures, WordFigures};
+ghost use Rattle.figures.specs.Figures.{Figures, AllFigures};
 
-// Every worked figure holds, of the definitions that the contracts use.
+// The figures of plans, and of the words and lanes of the lane kernels.
 pub fn worked_figures()
     ensures { Figures }
 {}
 
-// The worked words of bit planes and of the signed split, of the definitions that the contracts use.
-pub fn worked_words()
-    ensures { WordFigures }
-{}
+// Every worked figure, as one statement.
+pub fn all_worked_figures()
+    ensures { AllFigures }
+{
+    worked_figures();
+}
