@@ -113,13 +113,13 @@ fn words_for(facts: Facts, side: Side, n: usize) -> usize
     groups_for(facts, n) * facts.shape.words(side)
 }
 
-// The groups that n codes take.
+// The groups that a list of n codes takes, of which there are at most as many as it may have codes.
 fn groups_for(facts: Facts, n: usize) -> usize
     requires { n ≤ 65536 }
     ensures value { result ≡ groups facts.shape.group n }
     ensures few { result ≤ 65536 }
 {
-    (n + (facts.shape.group - 1)) / facts.shape.group
+    groups_taken(facts, n)
 }
 
 // Writes the words of each group.

@@ -1,4 +1,4 @@
-// The console: a text line in, a text line out. It reads standard input to its end.
+// The console of all four kinds, with runs: a text line in, a text line out. It reads standard input to its end.
 #![tactic(auto)]
 
 mod fault;
