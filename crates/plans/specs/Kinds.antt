@@ -1,16 +1,23 @@
 -- What each kind of plan fixes: its number, its codes, its groups and its words.
-use Rattle.std.specs.Prelude.{ℕ, ◌-◌, ◌^◌, pos, neg_ℤ}
+use Rattle.std.specs.Prelude.{◌≡◌, ◌≢◌, ℕ, ◌-◌, ◌^◌, pos, neg_ℤ, Result, MatchResult}
 use Rattle.codes.specs.declared.ends.Ends.{Ends}
 use Rattle.codes.specs.declared.shape.Shape.{Shape}
 use Rattle.plans.specs.declared.kind.Kind.{Kind}
 use Rattle.plans.specs.declared.kind.Kind.TheVariants.{P1, P2, Planes, Split}
 use Rattle.plans.specs.declared.request.Request.{Request}
+use Rattle.plans.specs.declared.refusal.PlanRefusal.{PlanRefusal}
+use Rattle.plans.specs.declared.refusal.PlanRefusal.TheVariants.{UnknownKind}
 
 abbrev pub kind_number : Kind → ℕ
 kind_number P1 = 1
 kind_number P2 = 2
 kind_number Planes = 3
 kind_number Split = 4
+
+-- a number stands for the kind that has it; a number that no kind has is refused as unknown
+abbrev pub KindNumbered : ℕ → Result Kind PlanRefusal → Type 0
+KindNumbered number a =
+    MatchResult a (λ k. kind_number k ≡ number) (λ e. (e ≡ UnknownKind) × ((k : Kind) → kind_number k ≢ number))
 
 -- the size is a number of bits: codes run from 0 to 2^size − 1
 abbrev pub bit_ends : (size : ℕ) → Ends

@@ -3,11 +3,10 @@ ghost use Rattle.std.specs.Prelude.{◌≡◌, ◌≤◌, min, IfOk, MatchResult
 ghost use Rattle.plans.specs.Answers.{Accepted, FirstNo, RangesHold, CodesFit, LaneHolds};
 
 use crate::kind::Kind;
-use crate::lane::most_steps;
-use crate::questions::*;
+use crate::layout::Layout;
+use crate::questions::zeros_fit;
 use crate::refusal::PlanRefusal;
 use crate::request::Request;
-use crate::shapes::shape_of;
 use crate::sum::sum_fits;
 
 // The longest interval that is ever taken.
@@ -32,23 +31,27 @@ pub(crate) fn answer(kind: Kind, request: &Request) -> Result<Request, PlanRefus
     ensures codes { IfOk result (λ n. CodesFit kind n) }
     ensures lane { IfOk result (λ n. LaneHolds kind n) }
 {
-    if !sizes_fit(kind, request) {
+    if !kind.takes_sizes(request) {
         return Err(PlanRefusal::Sizes);
     }
-    if !depth_fits(kind, request) {
+    if !kind.takes_depth(request) {
         return Err(PlanRefusal::Depth);
     }
-    if !counts_fit(request) {
+    let layout = Layout {
+        kind,
+        request: *request,
+    };
+    if !request.counts_fit() {
         return Err(PlanRefusal::Counts);
     }
-    let shape = shape_of(kind, request);
+    let shape = layout.shape();
     if !zeros_fit(&shape, request.zeros) {
         return Err(PlanRefusal::ZeroPoints);
     }
-    if !products_fit(kind, request) {
+    if !layout.products_fit() {
         return Err(PlanRefusal::Products);
     }
-    let most = most_steps(kind, request);
+    let most = layout.most_steps();
     if most < request.interval.max(1) {
         return Err(PlanRefusal::Lane);
     }

@@ -2,19 +2,18 @@
 ghost use Rattle.std.specs.Prelude.{◌≡◌};
 ghost use Rattle.codes.specs.declared.facts.Facts.{Facts};
 ghost use Rattle.plans.specs.declared.kind.Kind.{Kind};
-ghost use Rattle.plans.specs.declared.kind.Kind.TheVariants.{P1, P2, Planes, Split};
 ghost use Rattle.plans.specs.declared.request.Request.{Request};
 ghost use Rattle.plans.specs.Answers.{Answered, RangesHold, CodesFit, LaneHolds};
 ghost use Rattle.plans.specs.Plans.{FactsOf};
-ghost use Rattle.std.proofs.Common.{rules};
 
 use crate::check::answer;
 use crate::kind::Kind;
-use crate::plan::{P1Plan, P2Plan, PlanesPlan, SplitPlan};
+use crate::layout::Layout;
+use crate::plan::{Plan, PlanKind};
 use crate::refusal::PlanRefusal;
 use crate::request::Request;
-use crate::shapes::shape_of;
 use codes::facts::Facts;
+use std::marker::PhantomData;
 
 // A plan type of one kind. Every value of it passed the check.
 pub trait CheckedPlan: Sized {
@@ -41,117 +40,50 @@ pub trait CheckedPlan: Sized {
     ghost lane: { (plan : Self) → LaneHolds kind (given plan) };
 }
 
+// A plan of each kind, by the kind that its type has.
+impl<K: PlanKind> CheckedPlan for Plan<K> {
+    ghost kind = { K.KIND };
+
+    ghost given = { λ plan. plan.numbers };
+
+    ghost ranges = { λ plan. plan.ranges };
+
+    ghost codes = { λ plan. plan.codes };
+
+    ghost lane = { λ plan. plan.lane };
+
+    fn check(request: &Request) -> Result<Plan<K>, PlanRefusal> {
+        let numbers = answer(K::KIND, request)?;
+        Ok(Plan {
+            numbers,
+            kind: PhantomData,
+        })
+    }
+
+    fn numbers(&self) -> Request {
+        self.numbers
+    }
+
+    fn facts(&self) -> Facts {
+        facts_of(K::KIND, &self.numbers)
+    }
+}
+
 // The facts of a plan with these numbers.
 fn facts_of(kind: Kind, numbers: &Request) -> Facts
     requires ranges { RangesHold kind numbers.now }
     requires codes { CodesFit kind numbers.now }
     ensures { FactsOf kind numbers.now result }
 {
+    let layout = Layout {
+        kind,
+        request: *numbers,
+    };
     Facts {
-        shape: shape_of(kind, numbers),
+        shape: layout.shape(),
         interval: numbers.interval,
         rows: numbers.rows as usize,
         longest: numbers.longest,
         zeros: numbers.zeros,
-    }
-}
-
-impl CheckedPlan for P1Plan {
-    ghost kind = { P1 };
-
-    ghost given = { λ plan. plan.numbers };
-
-    ghost ranges = { Prim.search rules };
-
-    ghost codes = { Prim.search rules };
-
-    ghost lane = { Prim.search rules };
-
-    fn check(request: &Request) -> Result<P1Plan, PlanRefusal> {
-        let numbers = answer(Kind::P1, request)?;
-        Ok(P1Plan { numbers })
-    }
-
-    fn numbers(&self) -> Request {
-        self.numbers
-    }
-
-    fn facts(&self) -> Facts {
-        facts_of(Kind::P1, &self.numbers)
-    }
-}
-
-impl CheckedPlan for P2Plan {
-    ghost kind = { P2 };
-
-    ghost given = { λ plan. plan.numbers };
-
-    ghost ranges = { Prim.search rules };
-
-    ghost codes = { Prim.search rules };
-
-    ghost lane = { Prim.search rules };
-
-    fn check(request: &Request) -> Result<P2Plan, PlanRefusal> {
-        let numbers = answer(Kind::P2, request)?;
-        Ok(P2Plan { numbers })
-    }
-
-    fn numbers(&self) -> Request {
-        self.numbers
-    }
-
-    fn facts(&self) -> Facts {
-        facts_of(Kind::P2, &self.numbers)
-    }
-}
-
-impl CheckedPlan for PlanesPlan {
-    ghost kind = { Planes };
-
-    ghost given = { λ plan. plan.numbers };
-
-    ghost ranges = { Prim.search rules };
-
-    ghost codes = { Prim.search rules };
-
-    ghost lane = { Prim.search rules };
-
-    fn check(request: &Request) -> Result<PlanesPlan, PlanRefusal> {
-        let numbers = answer(Kind::Planes, request)?;
-        Ok(PlanesPlan { numbers })
-    }
-
-    fn numbers(&self) -> Request {
-        self.numbers
-    }
-
-    fn facts(&self) -> Facts {
-        facts_of(Kind::Planes, &self.numbers)
-    }
-}
-
-impl CheckedPlan for SplitPlan {
-    ghost kind = { Split };
-
-    ghost given = { λ plan. plan.numbers };
-
-    ghost ranges = { Prim.search rules };
-
-    ghost codes = { Prim.search rules };
-
-    ghost lane = { Prim.search rules };
-
-    fn check(request: &Request) -> Result<SplitPlan, PlanRefusal> {
-        let numbers = answer(Kind::Split, request)?;
-        Ok(SplitPlan { numbers })
-    }
-
-    fn numbers(&self) -> Request {
-        self.numbers
-    }
-
-    fn facts(&self) -> Facts {
-        facts_of(Kind::Split, &self.numbers)
     }
 }

@@ -1,10 +1,10 @@
 // The four kinds of plan, and the numbers that stand for them.
-ghost use Rattle.std.specs.Prelude.{◌≡◌, MatchOption, ◌≢◌};
-ghost use Rattle.plans.specs.declared.kind.Kind.{Kind};
-ghost use Rattle.plans.specs.Kinds.{kind_number};
+ghost use Rattle.plans.specs.Kinds.{KindNumbered};
+
+use crate::refusal::PlanRefusal;
 
 // Two lane packings (P1, P2), bit planes, and signed split sums.
-#[derive(Clone, Copy)]
+#[derive(Clone, Copy, Debug, PartialEq, Eq)]
 pub enum Kind {
     P1,
     P2,
@@ -12,17 +12,19 @@ pub enum Kind {
     Split,
 }
 
-impl Kind {
-    // The kind that a number stands for, if there is one.
-    pub(crate) fn numbered(number: u16) -> Option<Kind>
-        ensures { MatchOption result ((k : Kind) → kind_number k ≢ number) (λ k. kind_number k ≡ number) }
-    {
+// The kind that a number stands for. Any other number is refused as unknown.
+impl TryFrom<u16> for Kind {
+    type Error = PlanRefusal;
+
+    ghost try_from_gives = { KindNumbered };
+
+    fn try_from(number: u16) -> Result<Kind, PlanRefusal> {
         match number {
-            1 => Some(Kind::P1),
-            2 => Some(Kind::P2),
-            3 => Some(Kind::Planes),
-            4 => Some(Kind::Split),
-            _ => None,
+            1 => Ok(Kind::P1),
+            2 => Ok(Kind::P2),
+            3 => Ok(Kind::Planes),
+            4 => Ok(Kind::Split),
+            _ => Err(PlanRefusal::UnknownKind),
         }
     }
 }

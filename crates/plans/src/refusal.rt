@@ -2,17 +2,17 @@
 ghost use Rattle.std.specs.Prelude.{◌≡◌};
 ghost use Rattle.plans.specs.Questions.{refusal_number};
 
-// The first question that gets a no.
-#[derive(Clone, Copy)]
+// The first question that gets a no, each with its number.
+#[derive(Clone, Copy, Debug, PartialEq, Eq)]
 pub enum PlanRefusal {
-    UnknownKind,
-    Sizes,
-    Depth,
-    Counts,
-    ZeroPoints,
-    Products,
-    Lane,
-    Sum,
+    UnknownKind = 1,
+    Sizes = 2,
+    Depth = 3,
+    Counts = 4,
+    ZeroPoints = 5,
+    Products = 6,
+    Lane = 7,
+    Sum = 8,
 }
 
 impl PlanRefusal {
@@ -20,15 +20,6 @@ impl PlanRefusal {
     pub fn number(self) -> u8
         ensures { result ≡ refusal_number self }
     {
-        match self {
-            PlanRefusal::UnknownKind => 1,
-            PlanRefusal::Sizes => 2,
-            PlanRefusal::Depth => 3,
-            PlanRefusal::Counts => 4,
-            PlanRefusal::ZeroPoints => 5,
-            PlanRefusal::Products => 6,
-            PlanRefusal::Lane => 7,
-            PlanRefusal::Sum => 8,
-        }
+        self as u8
     }
 }

@@ -13,11 +13,11 @@ returns c =
     let most = c.most_steps-most.result in
     let interval = c.interval_taken-interval.result in
     let s : steps_asked r ≤ most = omega (arith, c.max.ensures) in
-    let same = c.shape_of-shape.ensures.value in
+    let same = c.shape-shape.ensures.value in
     let zeros = subst (λ (t : Shape). ZerosWithin t r.zeros) same c.if-not-zeros_fit.ensures in
     let sum = subst (λ (t : Shape). SumOverflows t r.zeros r.longest → ⊥) same c.if-not-sum_fits.ensures in
     let a : Accepted k r (with_interval r interval) = record {
-      yes = all_yes k r c.if-not-sizes_fit.ensures c.if-not-depth_fits.ensures c.if-not-counts_fit.ensures zeros
+      yes = all_yes k r c.if-not-takes_sizes.ensures c.if-not-takes_depth.ensures c.if-not-counts_fit.ensures zeros
           c.if-not-products_fit.ensures (c.most_steps-most.ensures.holds (steps_asked r) s) sum;
       rest = refl;
       asked = c.interval_taken-interval.ensures.asked;

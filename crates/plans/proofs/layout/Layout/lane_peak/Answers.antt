@@ -1,5 +1,5 @@
 use Rattle.std.proofs.Common.{mul-pos}
-use Rattle.plans.proofs.lane.lane_peak.Goals as goal
+use Rattle.plans.proofs.layout.Layout.lane_peak.Goals as goal
 
 pub returns : goal.returns
 returns c =

@@ -1,9 +1,0 @@
-use Rattle.std.proofs.Common.{◌≡◌, ◌∙◌}
-use Rattle.plans.specs.Bounds.{top_code}
-use Rattle.plans.proofs.Sizes.{top_range, top_ones}
-use Rattle.plans.proofs.shapes.top_code.Goals as goal
-
-pub returns-in-P1 : goal.returns-in-P1
-returns-in-P1 c =
-    let e : c.low_ones.result ≡ top_code c.args.kind c.args.size = c.low_ones.ensures ∙ top_ones c.args.kind c.args.size c.in-P1.is in
-    record { value = e; small = rw e (top_range c.args.kind c.args.size c.requires) }
