@@ -24,9 +24,9 @@ pub fn pack_codes<K: Kernel>(
     codes: &[i16],
     words: &mut [u16],
 ) -> Result<(), PackRefusal>
-    ensures answer { K.Kernel.sound kernel.now → result ≡ pack_list_answer (K.Kernel.means kernel.now).facts.shape side codes.now (length words.old) }
-    ensures after { K.Kernel.sound kernel.now → words.new ≡ (if is_ok result then packed_list (K.Kernel.packed (K.Kernel.means kernel.now).facts.shape) (K.Kernel.means kernel.now).facts.shape side codes.now else words.old) }
-    ensures back { K.Kernel.sound kernel.now → UnpacksBack (K.Kernel.unpacked (K.Kernel.means kernel.now).facts.shape) (K.Kernel.means kernel.now).facts.shape side codes.now words.new result }
+    ensures answer { result ≡ pack_list_answer (K.Kernel.means kernel.now).facts.shape side codes.now (length words.old) }
+    ensures after { words.new ≡ (if is_ok result then packed_list (K.Kernel.packed (K.Kernel.means kernel.now).facts.shape) (K.Kernel.means kernel.now).facts.shape side codes.now else words.old) }
+    ensures back { UnpacksBack (K.Kernel.unpacked (K.Kernel.means kernel.now).facts.shape) (K.Kernel.means kernel.now).facts.shape side codes.now words.new result }
 {
     let facts = kernel.facts();
     may_pack(facts, side, codes, words.len())?;
@@ -41,9 +41,9 @@ pub fn unpack_codes<K: Kernel>(
     words: &[u16],
     codes: &mut [i16],
 ) -> Result<(), UnpackRefusal>
-    ensures answer { K.Kernel.sound kernel.now → result ≡ unpack_list_answer (K.Kernel.unpacked (K.Kernel.means kernel.now).facts.shape) (K.Kernel.means kernel.now).facts.shape side (length codes.old) words.now }
-    ensures after { K.Kernel.sound kernel.now → codes.new ≡ (if is_ok result then codes_after (unpacked_list (K.Kernel.unpacked (K.Kernel.means kernel.now).facts.shape) (K.Kernel.means kernel.now).facts.shape side (length codes.old) words.now) codes.old else codes.old) }
-    ensures again { K.Kernel.sound kernel.now → Repacks (K.Kernel.packed (K.Kernel.means kernel.now).facts.shape) (K.Kernel.means kernel.now).facts.shape side (length codes.old) words.now codes.new result }
+    ensures answer { result ≡ unpack_list_answer (K.Kernel.unpacked (K.Kernel.means kernel.now).facts.shape) (K.Kernel.means kernel.now).facts.shape side (length codes.old) words.now }
+    ensures after { codes.new ≡ (if is_ok result then codes_after (unpacked_list (K.Kernel.unpacked (K.Kernel.means kernel.now).facts.shape) (K.Kernel.means kernel.now).facts.shape side (length codes.old) words.now) codes.old else codes.old) }
+    ensures again { Repacks (K.Kernel.packed (K.Kernel.means kernel.now).facts.shape) (K.Kernel.means kernel.now).facts.shape side (length codes.old) words.now codes.new result }
 {
     let facts = kernel.facts();
     may_unpack(facts, side, words.len(), codes.len())?;
@@ -126,7 +126,7 @@ fn groups_for(facts: Facts, n: usize) -> usize
 fn write_groups<K: Kernel>(kernel: &K, facts: Facts, side: Side, codes: &[i16], words: &mut [u16])
     requires few { length codes.now ≤ 65536 }
     requires exact { length words.old ≡ words_for facts.shape side (length codes.now) }
-    ensures { K.Kernel.sound kernel.now → facts ≡ (K.Kernel.means kernel.now).facts → AllByRecursion (Within (ends_on (K.Kernel.means kernel.now).facts.shape side)) codes.now → words.new ≡ packed_list (K.Kernel.packed (K.Kernel.means kernel.now).facts.shape) (K.Kernel.means kernel.now).facts.shape side codes.now }
+    ensures { facts ≡ (K.Kernel.means kernel.now).facts → AllByRecursion (Within (ends_on (K.Kernel.means kernel.now).facts.shape side)) codes.now → words.new ≡ packed_list (K.Kernel.packed (K.Kernel.means kernel.now).facts.shape) (K.Kernel.means kernel.now).facts.shape side codes.now }
 {
     let size = facts.shape.group;
     let width = facts.shape.words(side);
@@ -161,7 +161,7 @@ fn check_groups<K: Kernel>(
 ) -> Result<(), UnpackRefusal>
     requires few { n ≤ 65536 }
     requires exact { length words.now ≡ words_for facts.shape side n }
-    ensures { K.Kernel.sound kernel.now → facts ≡ (K.Kernel.means kernel.now).facts → result ≡ bad_group (unpacked_list (K.Kernel.unpacked (K.Kernel.means kernel.now).facts.shape) (K.Kernel.means kernel.now).facts.shape side n words.now) }
+    ensures { facts ≡ (K.Kernel.means kernel.now).facts → result ≡ bad_group (unpacked_list (K.Kernel.unpacked (K.Kernel.means kernel.now).facts.shape) (K.Kernel.means kernel.now).facts.shape side n words.now) }
 {
     match first_bad(kernel, facts, side, words, n) {
         Some(group) => Err(UnpackRefusal::Group { group }),
@@ -179,7 +179,7 @@ fn first_bad<K: Kernel>(
 ) -> Option<usize>
     requires few { n ≤ 65536 }
     requires exact { length words.now ≡ words_for facts.shape side n }
-    ensures { K.Kernel.sound kernel.now → facts ≡ (K.Kernel.means kernel.now).facts → none_bad result ≡ bad_group (unpacked_list (K.Kernel.unpacked (K.Kernel.means kernel.now).facts.shape) (K.Kernel.means kernel.now).facts.shape side n words.now) }
+    ensures { facts ≡ (K.Kernel.means kernel.now).facts → none_bad result ≡ bad_group (unpacked_list (K.Kernel.unpacked (K.Kernel.means kernel.now).facts.shape) (K.Kernel.means kernel.now).facts.shape side n words.now) }
 {
     let size = facts.shape.group;
     let width = facts.shape.words(side);
@@ -195,7 +195,7 @@ fn first_bad<K: Kernel>(
 
 // Whether the words of a group pack so many codes and their fill.
 fn packs_codes<K: Kernel>(kernel: &K, size: usize, side: Side, words: &[u16], used: usize) -> bool
-    ensures { K.Kernel.sound kernel.now → size ≡ (K.Kernel.means kernel.now).facts.shape.group → result ≡ is_some (first_codes used (K.Kernel.unpacked (K.Kernel.means kernel.now).facts.shape side words.now)) }
+    ensures { size ≡ (K.Kernel.means kernel.now).facts.shape.group → result ≡ is_some (first_codes used (K.Kernel.unpacked (K.Kernel.means kernel.now).facts.shape side words.now)) }
 {
     if kernel.read_code(side, words, 0).is_err() {
         return false;
@@ -222,7 +222,7 @@ fn reads_zero(code: Result<i16, CodeRefusal>) -> bool
 fn read_groups<K: Kernel>(kernel: &K, facts: Facts, side: Side, words: &[u16], codes: &mut [i16])
     requires few { length codes.old ≤ 65536 }
     requires exact { length words.now ≡ words_for facts.shape side (length codes.old) }
-    ensures { K.Kernel.sound kernel.now → facts ≡ (K.Kernel.means kernel.now).facts → (all : List ℤ) → unpacked_list (K.Kernel.unpacked (K.Kernel.means kernel.now).facts.shape) (K.Kernel.means kernel.now).facts.shape side (length codes.old) words.now ≡ Ok all → codes.new ≡ all }
+    ensures { facts ≡ (K.Kernel.means kernel.now).facts → (all : List ℤ) → unpacked_list (K.Kernel.unpacked (K.Kernel.means kernel.now).facts.shape) (K.Kernel.means kernel.now).facts.shape side (length codes.old) words.now ≡ Ok all → codes.new ≡ all }
 {
     let size = facts.shape.group;
     let width = facts.shape.words(side);
@@ -237,7 +237,7 @@ fn read_groups<K: Kernel>(kernel: &K, facts: Facts, side: Side, words: &[u16], c
 
 // Reads the codes of a group from its first on.
 fn read_group<K: Kernel>(kernel: &K, side: Side, words: &[u16], codes: &mut [i16])
-    ensures { K.Kernel.sound kernel.now → (all : List ℤ) → K.Kernel.unpacked (K.Kernel.means kernel.now).facts.shape side words.now ≡ Some all → length codes.old ≤ (K.Kernel.means kernel.now).facts.shape.group → codes.new ≡ take (length codes.old) all }
+    ensures { (all : List ℤ) → K.Kernel.unpacked (K.Kernel.means kernel.now).facts.shape side words.now ≡ Some all → length codes.old ≤ (K.Kernel.means kernel.now).facts.shape.group → codes.new ≡ take (length codes.old) all }
 {
     for place in 0..codes.len() {
         if let Ok(code) = kernel.read_code(side, words, place) {

@@ -10,7 +10,6 @@ pub trait Planned: Kernel {
     type Plan: CheckedPlan;
 
     fn of_plan(plan: Self::Plan) -> Self
-        ensures sound { Self.Kernel.sound result }
         ensures facts { FactsOf Self.Plan.CheckedPlan.kind (Self.Plan.CheckedPlan.given plan) (Self.Kernel.means result).facts }
         ensures empty { (row : ℕ) → ((Self.Kernel.means result).total row ≡ pos 0) × ((Self.Kernel.means result).steps row ≡ 0) };
 }

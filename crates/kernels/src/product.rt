@@ -15,9 +15,8 @@ pub fn group_product<K: Kernel>(
     weights: &[u16],
     activations: &[u16],
 ) -> Result<i64, StepRefusal>
-    ensures sound { K.Kernel.sound kernel.old → K.Kernel.sound kernel.new }
-    ensures answer { K.Kernel.sound kernel.old → result ≡ step_gain (K.Kernel.unpacked (K.Kernel.means kernel.old).facts.shape) (K.Kernel.means kernel.old).facts row 0 weights.now activations.now }
-    ensures after { K.Kernel.sound kernel.old → Drained row (K.Kernel.means kernel.old) (K.Kernel.means kernel.new) }
+    ensures answer { result ≡ step_gain (K.Kernel.unpacked (K.Kernel.means kernel.old).facts.shape) (K.Kernel.means kernel.old).facts row 0 weights.now activations.now }
+    ensures after { Drained row (K.Kernel.means kernel.old) (K.Kernel.means kernel.new) }
 {
     kernel.drain(row)?;
     kernel.step(row, weights, activations)?;

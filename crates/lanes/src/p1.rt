@@ -40,17 +40,15 @@ pub struct P1 {
 impl Kernel for P1 {
     ghost means = { λ k. p1_means k.lanes.width k.lanes.depth k.facts k.rows };
 
-    ghost sound = { λ _. Unit {0} };
-
     ghost packed = { λ s. packed_lanes (p1_width s) s };
 
     ghost unpacked = { λ s. unpacked_lanes (p1_width s) s };
 
-    ghost packs = { λ k _.
+    ghost packs = { λ k.
         let l = k.lanes in
         packs_at k.facts.shape l.width (p1_width k.facts.shape) l.depth l.weight_size l.activation_size k.width_rule k.shape_rule (laid l) };
 
-    ghost unpacks = { λ k _.
+    ghost unpacks = { λ k.
         let l = k.lanes in
         unpacks_at k.facts.shape (p1_width k.facts.shape) l.depth l.weight_size l.activation_size k.shape_rule };
 

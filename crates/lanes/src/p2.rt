@@ -40,17 +40,15 @@ pub struct P2 {
 impl Kernel for P2 {
     ghost means = { λ k. p2_means k.lanes.width k.lanes.depth k.facts k.rows };
 
-    ghost sound = { λ _. Unit {0} };
-
     ghost packed = { λ s. packed_lanes (p2_width s) s };
 
     ghost unpacked = { λ s. unpacked_lanes (p2_width s) s };
 
-    ghost packs = { λ k _.
+    ghost packs = { λ k.
         let l = k.lanes in
         packs_at k.facts.shape l.width (p2_width k.facts.shape) l.depth l.weight_size l.activation_size k.width_rule k.shape_rule (laid l) };
 
-    ghost unpacks = { λ k _.
+    ghost unpacks = { λ k.
         let l = k.lanes in
         unpacks_at k.facts.shape (p2_width k.facts.shape) l.depth l.weight_size l.activation_size k.shape_rule };
 

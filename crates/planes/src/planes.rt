@@ -31,15 +31,13 @@ pub struct Planes {
 impl Kernel for Planes {
     ghost means = { λ k. planes_means k.facts k.rows };
 
-    ghost sound = { λ _. Unit {0} };
-
     ghost packed = { packed_planes };
 
     ghost unpacked = { unpacked_planes };
 
-    ghost packs = { λ k _. Packings.packs k.facts.shape k.shape_rule };
+    ghost packs = { λ k. Packings.packs k.facts.shape k.shape_rule };
 
-    ghost unpacks = { λ k _. Packings.unpacks k.facts.shape k.shape_rule };
+    ghost unpacks = { λ k. Packings.unpacks k.facts.shape k.shape_rule };
 
     fn facts(&self) -> Facts {
         self.facts

@@ -31,8 +31,7 @@ pub record RightReply {K : Type 0} (means : K → Meaning) (f : Facts) (u : Unpa
   pub stands : StandsAt means q (point_after f u c reply_is p)
   pub text : said (answer_text reply_is)
 
-abbrev pub CallAnswered : {K : Type 0} → (means : K → Meaning) → (sound : K → Type 0) → (Shape → Unpacking) → Run K → Call → Run K → (said : List ℕ → Type 0) → Type 0
-CallAnswered means sound unpacked r c q said =
-    sound (kernel_of r)
-    → sound (kernel_of q) × ((means (kernel_of q)).facts ≡ (means (kernel_of r)).facts)
+abbrev pub CallAnswered : {K : Type 0} → (means : K → Meaning) → (Shape → Unpacking) → Run K → Call → Run K → (said : List ℕ → Type 0) → Type 0
+CallAnswered means unpacked r c q said =
+    ((means (kernel_of q)).facts ≡ (means (kernel_of r)).facts)
     × ((p : Point) → StandsAt means r p → RightReply means (means (kernel_of r)).facts (unpacked (means (kernel_of r)).facts.shape) c p q said)

@@ -64,7 +64,7 @@ fn answer_call<K: Kernel>(
     run: Run<K>,
     call: Call<'_>,
 ) -> (Run<K>, Result<String, AllocError>)
-    ensures { CallAnswered K.Kernel.means K.Kernel.sound K.Kernel.unpacked run call.entry result.0 (λ bytes. IfOk result.1 (λ text. string_bytes text ≡ bytes)) }
+    ensures { CallAnswered K.Kernel.means K.Kernel.unpacked run call.entry result.0 (λ bytes. IfOk result.1 (λ text. string_bytes text ≡ bytes)) }
 {
     let calls = [call];
     let mut answers = [Answer::Misplaced];

@@ -75,17 +75,17 @@ pub record WalkedTo {K : Type 0} (means : K → Meaning) (f : Facts) (u : Unpack
   pub right : AllRight f u (take i calls) (take i answers) from
   pub stands : StandsAt means run (end_point f u (take i calls) (take i answers) from)
 
-module _ {K : Type 0} (means : K → Meaning) (sound : K → Type 0) (unpacked : Shape → Unpacking) (f : Facts) (calls : List Call) (from : Point) where
+module _ {K : Type 0} (means : K → Meaning) (unpacked : Shape → Unpacking) (f : Facts) (calls : List Call) (from : Point) where
   abbrev u : Unpacking
   u = unpacked f.shape
 
-  pub walked_more : (i : ℕ) (run q : Run K) (answers : List Answer) (d : Call) (a : Answer) → i < length calls → i < length answers → sound (kernel_of run) → (means (kernel_of run)).facts ≡ f
-      → Turns means sound unpacked run (get_or calls i d) a q → WalkedTo means f (unpacked f.shape) calls from i run answers → WalkedTo means f (unpacked f.shape) calls from (i + 1) q (set answers i a)
-  walked_more i run q answers d a l l' sd same h w =
+  pub walked_more : (i : ℕ) (run q : Run K) (answers : List Answer) (d : Call) (a : Answer) → i < length calls → i < length answers → (means (kernel_of run)).facts ≡ f
+      → Turns means unpacked run (get_or calls i d) a q → WalkedTo means f (unpacked f.shape) calls from i run answers → WalkedTo means f (unpacked f.shape) calls from (i + 1) q (set answers i a)
+  walked_more i run q answers d a l l' same h w =
       let x : Call = get_or calls i d in
       let p : Point = end_point f u (take i calls) (take i answers) from in
       let F : Facts → Type 0 = λ y. Right y (unpacked y.shape) x a p × StandsAt means q (point_after y (unpacked y.shape) x a p) in
-      let m = subst F same ((h sd).2 p w.stands) in
+      let m = subst F same (h.1 p w.stands) in
       let e : take (i + 1) calls ≡ take i calls ++ (x ∷ []) = take_more calls i d l in
       let e' : take (i + 1) (set answers i a) ≡ take i answers ++ (a ∷ []) = take_more_set answers i a l' in
       let long : length (take i calls) ≡ length (take i answers) = omega (arith, length-take-le i calls (omega arith), length-take-le i answers (omega arith)) in

@@ -113,11 +113,10 @@ Right f u c answer.Resumed p = (p.is_open ≡ false) × (c ≡ call.Resume)
 Right f u c answer.Cleared p = (p.is_open ≡ false) × (c ≡ call.Clear)
 Right f u c answer.Misplaced p = allowed p.is_open c ≡ false
 
--- one call leads a sound run from each point where it stands to the next
-abbrev pub Turns : {K : Type 0} → (means : K → Meaning) → (sound : K → Type 0) → (Shape → Unpacking) → Run K → Call → Answer → Run K → Type 0
-Turns means sound unpacked r c a q =
-    sound (kernel_of r)
-    → sound (kernel_of q) × ((means (kernel_of q)).facts ≡ (means (kernel_of r)).facts)
+-- one call leads a run from each point where it stands to the next
+abbrev pub Turns : {K : Type 0} → (means : K → Meaning) → (Shape → Unpacking) → Run K → Call → Answer → Run K → Type 0
+Turns means unpacked r c a q =
+    ((means (kernel_of q)).facts ≡ (means (kernel_of r)).facts)
     × ((p : Point) → StandsAt means r p
     → Right (means (kernel_of r)).facts (unpacked (means (kernel_of r)).facts.shape) c a p
     × StandsAt means q (point_after (means (kernel_of r)).facts (unpacked (means (kernel_of r)).facts.shape) c a p))
@@ -165,17 +164,15 @@ pub record Lawful {K : Type 0} (means : K → Meaning) (f : Facts) (u : Unpackin
   pub stands : StandsAt means r (end_point f u calls answers from)
 
 -- a run goes on, from each point where it stands
-abbrev pub Continues : {K : Type 0} → (means : K → Meaning) → (sound : K → Type 0) → (Shape → Unpacking) → Run K → List Call → List Answer → Run K → Type 0
-Continues means sound unpacked r calls answers q =
-    sound (kernel_of r)
-    → sound (kernel_of q) × ((means (kernel_of q)).facts ≡ (means (kernel_of r)).facts)
+abbrev pub Continues : {K : Type 0} → (means : K → Meaning) → (Shape → Unpacking) → Run K → List Call → List Answer → Run K → Type 0
+Continues means unpacked r calls answers q =
+    ((means (kernel_of q)).facts ≡ (means (kernel_of r)).facts)
     × ((p : Point) → StandsAt means r p → Lawful means (means (kernel_of r)).facts (unpacked (means (kernel_of r)).facts.shape) calls answers p q)
 
 -- a new run begins open, with nothing given
-abbrev pub Replays : {K : Type 0} → (means : K → Meaning) → (sound : K → Type 0) → (Shape → Unpacking) → K → List Call → List Answer → Run K → Type 0
-Replays means sound unpacked k calls answers q =
-    sound k
-    → sound (kernel_of q) × ((means (kernel_of q)).facts ≡ (means k).facts)
+abbrev pub Replays : {K : Type 0} → (means : K → Meaning) → (Shape → Unpacking) → K → List Call → List Answer → Run K → Type 0
+Replays means unpacked k calls answers q =
+    ((means (kernel_of q)).facts ≡ (means k).facts)
     × Lawful means (means k).facts (unpacked (means k).facts.shape) calls answers (open_at []) q
 
 -- ---- two runs

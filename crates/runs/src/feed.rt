@@ -19,9 +19,8 @@ pub(crate) fn feed_row<K: Kernel>(
 ) -> u64
     requires weights { groups * facts.shape.weight_words ≤ length weights.now }
     requires activations { groups * facts.shape.activation_words ≤ length activations.now }
-    ensures sound { K.Kernel.sound kernel.old → K.Kernel.sound kernel.new }
-    ensures facts { K.Kernel.sound kernel.old → (K.Kernel.means kernel.new).facts ≡ (K.Kernel.means kernel.old).facts }
-    ensures after { K.Kernel.sound kernel.old → facts ≡ (K.Kernel.means kernel.old).facts → FeedsRow (K.Kernel.unpacked (K.Kernel.means kernel.old).facts.shape) (K.Kernel.means kernel.old) row kept.old sum weights.now activations.now groups result (K.Kernel.means kernel.new) kept.new }
+    ensures facts { (K.Kernel.means kernel.new).facts ≡ (K.Kernel.means kernel.old).facts }
+    ensures after { facts ≡ (K.Kernel.means kernel.old).facts → FeedsRow (K.Kernel.unpacked (K.Kernel.means kernel.old).facts.shape) (K.Kernel.means kernel.old) row kept.old sum weights.now activations.now groups result (K.Kernel.means kernel.new) kept.new }
 {
     let drains = step_groups(kernel, facts, row, kept, weights, activations, groups);
     kept.weight_sum = kept.weight_sum.wrapping_add(sum);
@@ -40,9 +39,8 @@ fn step_groups<K: Kernel>(
 ) -> u64
     requires weights { groups * facts.shape.weight_words ≤ length weights.now }
     requires activations { groups * facts.shape.activation_words ≤ length activations.now }
-    ensures sound { K.Kernel.sound kernel.old → K.Kernel.sound kernel.new }
-    ensures facts { K.Kernel.sound kernel.old → (K.Kernel.means kernel.new).facts ≡ (K.Kernel.means kernel.old).facts }
-    ensures after { K.Kernel.sound kernel.old → facts ≡ (K.Kernel.means kernel.old).facts → StepsRow (K.Kernel.unpacked (K.Kernel.means kernel.old).facts.shape) (K.Kernel.means kernel.old) row kept.old weights.now activations.now groups result (K.Kernel.means kernel.new) kept.new }
+    ensures facts { (K.Kernel.means kernel.new).facts ≡ (K.Kernel.means kernel.old).facts }
+    ensures after { facts ≡ (K.Kernel.means kernel.old).facts → StepsRow (K.Kernel.unpacked (K.Kernel.means kernel.old).facts.shape) (K.Kernel.means kernel.old) row kept.old weights.now activations.now groups result (K.Kernel.means kernel.new) kept.new }
 {
     let weight_words = facts.shape.weight_words;
     let activation_words = facts.shape.activation_words;
@@ -67,9 +65,8 @@ fn step_group<K: Kernel>(
     weights: &[u16],
     activations: &[u16],
 ) -> u64
-    ensures sound { K.Kernel.sound kernel.old → K.Kernel.sound kernel.new }
-    ensures facts { K.Kernel.sound kernel.old → (K.Kernel.means kernel.new).facts ≡ (K.Kernel.means kernel.old).facts }
-    ensures after { K.Kernel.sound kernel.old → interval ≡ (K.Kernel.means kernel.old).facts.interval → StepsInto (K.Kernel.unpacked (K.Kernel.means kernel.old).facts.shape) (K.Kernel.means kernel.old) row kept.old weights.now activations.now result (K.Kernel.means kernel.new) kept.new }
+    ensures facts { (K.Kernel.means kernel.new).facts ≡ (K.Kernel.means kernel.old).facts }
+    ensures after { interval ≡ (K.Kernel.means kernel.old).facts.interval → StepsInto (K.Kernel.unpacked (K.Kernel.means kernel.old).facts.shape) (K.Kernel.means kernel.old) row kept.old weights.now activations.now result (K.Kernel.means kernel.new) kept.new }
 {
     let _ = kernel.step(row, weights, activations);
     match kernel.steps(row) {
@@ -86,8 +83,7 @@ fn step_group<K: Kernel>(
 
 // Drains a row that has steps into its record, and answers how many drains that was.
 pub(crate) fn drain_row<K: Kernel>(kernel: &mut K, row: usize, kept: &mut RowRecord) -> u64
-    ensures sound { K.Kernel.sound kernel.old → K.Kernel.sound kernel.new }
-    ensures after { K.Kernel.sound kernel.old → DrainedInto (K.Kernel.means kernel.old) row kept.old result (K.Kernel.means kernel.new) kept.new }
+    ensures after { DrainedInto (K.Kernel.means kernel.old) row kept.old result (K.Kernel.means kernel.new) kept.new }
 {
     match kernel.steps(row) {
         Ok(steps) => {

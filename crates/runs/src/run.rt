@@ -34,9 +34,8 @@ pub struct SettledRun<K: Kernel> {
 impl<K: Kernel> OpenRun<K> {
     // Opens a run on a kernel: drains its 64 rows and drops what they held.
     pub fn open(mut kernel: K) -> OpenRun<K>
-        ensures sound { K.Kernel.sound kernel → K.Kernel.sound result.kernel }
-        ensures facts { K.Kernel.sound kernel → (K.Kernel.means result.kernel).facts ≡ (K.Kernel.means kernel).facts }
-        ensures story { K.Kernel.sound kernel → Tells (K.Kernel.means result.kernel) result.kept [] }
+        ensures facts { (K.Kernel.means result.kernel).facts ≡ (K.Kernel.means kernel).facts }
+        ensures story { Tells (K.Kernel.means result.kernel) result.kept [] }
     {
         for row in 0..64 {
             let _ = kernel.drain(row);
@@ -55,9 +54,8 @@ impl<K: Kernel> OpenRun<K> {
         activations: &[u16],
     ) -> Result<(), FeedRefusal>
         ensures refused { KeptIfRefused result self.old self.new }
-        ensures sound { K.Kernel.sound self.old.kernel → K.Kernel.sound self.new.kernel }
-        ensures after { K.Kernel.sound self.old.kernel → Feeds (K.Kernel.unpacked (K.Kernel.means self.old.kernel).facts.shape) count weights.now activations.now result (K.Kernel.means self.old.kernel) self.old.kept (K.Kernel.means self.new.kernel) self.new.kept }
-        ensures packs { K.Kernel.sound self.old.kernel → FeedPacks (K.Kernel.packed (K.Kernel.means self.old.kernel).facts.shape) (K.Kernel.means self.old.kernel).facts count weights.now activations.now (feed_columns (K.Kernel.unpacked (K.Kernel.means self.old.kernel).facts.shape) (K.Kernel.means self.old.kernel).facts count weights.now activations.now) result }
+        ensures after { Feeds (K.Kernel.unpacked (K.Kernel.means self.old.kernel).facts.shape) count weights.now activations.now result (K.Kernel.means self.old.kernel) self.old.kept (K.Kernel.means self.new.kernel) self.new.kept }
+        ensures packs { FeedPacks (K.Kernel.packed (K.Kernel.means self.old.kernel).facts.shape) (K.Kernel.means self.old.kernel).facts count weights.now activations.now (feed_columns (K.Kernel.unpacked (K.Kernel.means self.old.kernel).facts.shape) (K.Kernel.means self.old.kernel).facts count weights.now activations.now) result }
     {
         let facts = self.kernel.facts();
         let sums = check(
@@ -82,8 +80,7 @@ impl<K: Kernel> OpenRun<K> {
 
     // Drains each row that has steps.
     pub fn settle(self) -> SettledRun<K>
-        ensures sound { K.Kernel.sound self.kernel → K.Kernel.sound result.kernel }
-        ensures after { K.Kernel.sound self.kernel → Settles (K.Kernel.means self.kernel) self.kept (K.Kernel.means result.kernel) result.kept }
+        ensures after { Settles (K.Kernel.means self.kernel) self.kept (K.Kernel.means result.kernel) result.kept }
     {
         let OpenRun {
             mut kernel,
@@ -101,7 +98,7 @@ impl<K: Kernel> OpenRun<K> {
 impl<K: Kernel> SettledRun<K> {
     // The exact sum of a row, and the steps and drains of all rows, since the start.
     pub fn read(&self, row: usize) -> Result<(i32, u64, u64), ReadRefusal>
-        ensures { K.Kernel.sound self.now.kernel → Reads (K.Kernel.means self.now.kernel) self.now.kept row result }
+        ensures { Reads (K.Kernel.means self.now.kernel) self.now.kept row result }
     {
         let facts = self.kernel.facts();
         if row >= facts.rows {
@@ -147,9 +144,8 @@ fn take_in<K: Kernel>(
     requires few { count ≤ 65536 }
     requires weights { length weights.now ≡ facts.rows * words_for facts.shape Weights count }
     requires activations { length activations.now ≡ words_for facts.shape Activations count }
-    ensures sound { K.Kernel.sound kernel.old → K.Kernel.sound kernel.new }
-    ensures facts { K.Kernel.sound kernel.old → (K.Kernel.means kernel.new).facts ≡ (K.Kernel.means kernel.old).facts }
-    ensures after { K.Kernel.sound kernel.old → facts ≡ (K.Kernel.means kernel.old).facts → Takes (K.Kernel.unpacked (K.Kernel.means kernel.old).facts.shape) count weights.now activations.now sums.now (K.Kernel.means kernel.old) kept.old (K.Kernel.means kernel.new) kept.new }
+    ensures facts { (K.Kernel.means kernel.new).facts ≡ (K.Kernel.means kernel.old).facts }
+    ensures after { facts ≡ (K.Kernel.means kernel.old).facts → Takes (K.Kernel.unpacked (K.Kernel.means kernel.old).facts.shape) count weights.now activations.now sums.now (K.Kernel.means kernel.old) kept.old (K.Kernel.means kernel.new) kept.new }
 {
     let groups = groups_taken(facts, count);
     let size = groups * facts.shape.weight_words;

@@ -28,7 +28,7 @@ pub(crate) fn check<K: Kernel>(
     activations: &[u16],
 ) -> Result<CodeSums, FeedRefusal>
     ensures sized { Sized facts accepted count (length weights.now) (length activations.now) result }
-    ensures checked { K.Kernel.sound kernel.now → facts ≡ (K.Kernel.means kernel.now).facts → Checked (K.Kernel.unpacked (K.Kernel.means kernel.now).facts.shape) (K.Kernel.means kernel.now).facts accepted count weights.now activations.now result }
+    ensures checked { facts ≡ (K.Kernel.means kernel.now).facts → Checked (K.Kernel.unpacked (K.Kernel.means kernel.now).facts.shape) (K.Kernel.means kernel.now).facts accepted count weights.now activations.now result }
 {
     ask_sizes(facts, accepted, count, weights.len(), activations.len())?;
     let weights = match row_sums(kernel, facts, weights, count) {
@@ -87,7 +87,7 @@ fn row_sums<K: Kernel>(
 ) -> Result<[i64; 64], (usize, usize)>
     requires few { count ≤ 65536 }
     requires exact { length weights.now ≡ facts.rows * words_for facts.shape Weights count }
-    ensures { K.Kernel.sound kernel.now → facts ≡ (K.Kernel.means kernel.now).facts → RowsTotal (row_codes (K.Kernel.unpacked (K.Kernel.means kernel.now).facts.shape) (K.Kernel.means kernel.now).facts.shape count weights.now) (K.Kernel.means kernel.now).facts.rows result }
+    ensures { facts ≡ (K.Kernel.means kernel.now).facts → RowsTotal (row_codes (K.Kernel.unpacked (K.Kernel.means kernel.now).facts.shape) (K.Kernel.means kernel.now).facts.shape count weights.now) (K.Kernel.means kernel.now).facts.rows result }
 {
     let mut sums = [0i64; 64];
     let size = groups_taken(facts, count) * facts.shape.weight_words;
@@ -112,7 +112,7 @@ fn list_sum<K: Kernel>(
 ) -> Result<i64, usize>
     requires few { count ≤ 65536 }
     requires exact { length words.now ≡ words_for facts.shape side count }
-    ensures { K.Kernel.sound kernel.now → facts ≡ (K.Kernel.means kernel.now).facts → result ≡ list_total (unpacked_list (K.Kernel.unpacked (K.Kernel.means kernel.now).facts.shape) (K.Kernel.means kernel.now).facts.shape side count words.now) }
+    ensures { facts ≡ (K.Kernel.means kernel.now).facts → result ≡ list_total (unpacked_list (K.Kernel.unpacked (K.Kernel.means kernel.now).facts.shape) (K.Kernel.means kernel.now).facts.shape side count words.now) }
 {
     let size = facts.shape.group;
     let width = facts.shape.words(side);
@@ -136,7 +136,7 @@ fn group_sum<K: Kernel>(
     words: &[u16],
     used: usize,
 ) -> Option<i64>
-    ensures { K.Kernel.sound kernel.now → size ≡ (K.Kernel.means kernel.now).facts.shape.group → result ≡ group_total (first_codes used (K.Kernel.unpacked (K.Kernel.means kernel.now).facts.shape side words.now)) }
+    ensures { size ≡ (K.Kernel.means kernel.now).facts.shape.group → result ≡ group_total (first_codes used (K.Kernel.unpacked (K.Kernel.means kernel.now).facts.shape side words.now)) }
 {
     let mut sum = 0i64;
     for place in 0..size {

@@ -32,15 +32,13 @@ pub struct Split {
 impl Kernel for Split {
     ghost means = { λ k. split_means k.facts k.rows };
 
-    ghost sound = { λ _. Unit {0} };
-
     ghost packed = { packed_split };
 
     ghost unpacked = { unpacked_split };
 
-    ghost packs = { λ k _. Packings.packs k.facts.shape k.shape_rule };
+    ghost packs = { λ k. Packings.packs k.facts.shape k.shape_rule };
 
-    ghost unpacks = { λ k _. Packings.unpacks k.facts.shape k.shape_rule };
+    ghost unpacks = { λ k. Packings.unpacks k.facts.shape k.shape_rule };
 
     fn facts(&self) -> Facts {
         self.facts

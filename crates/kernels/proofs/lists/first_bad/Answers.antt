@@ -21,7 +21,7 @@ overflow_sub-n g c =
     omega (arith, h)
 
 pub returns-then-not-packs_codes : goal.returns-then-not-packs_codes
-returns-then-not-packs_codes g c = λ s e.
+returns-then-not-packs_codes g c = λ e.
     let S : Shape = (g.K.Kernel.means c.args.kernel.now).facts.shape in
     let side = c.args.side in
     let u = g.K.Kernel.unpacked S side in
@@ -33,11 +33,11 @@ returns-then-not-packs_codes g c = λ s e.
     let m : size ≡ S.group = size_of c.args.facts (g.K.Kernel.means c.args.kernel.now).facts e in
     let w : width ≡ words_on S side = width_of c.args.facts (g.K.Kernel.means c.args.kernel.now).facts side c.words-width.result c.words-width.ensures e in
     bad_here u size width (groups size n) n words at _ (omega (arith, c.loop-group-test.true, c.groups_for-count.ensures.value))
-    (c.if-not-packs_codes.ensures s m ∙ ap (λ ws. is_some (first_codes (n - at * size) (u ws))) (span_is words (at * width) width)) (c.loop-group.invariant s m w)
+    (c.if-not-packs_codes.ensures m ∙ ap (λ ws. is_some (first_codes (n - at * size) (u ws))) (span_is words (at * width) width)) (c.loop-group.invariant m w)
     ∙ start_at u size width S.group (words_on S side) n words m w
 
 pub loop-group-preserved : goal.loop-group-preserved
-loop-group-preserved g c = λ s m w.
+loop-group-preserved g c = λ m w.
     let S : Shape = (g.K.Kernel.means c.args.kernel.now).facts.shape in
     let u = g.K.Kernel.unpacked S c.args.side in
     let size : ℕ = c.args.facts.shape.group in
@@ -46,10 +46,10 @@ loop-group-preserved g c = λ s m w.
     let at : ℕ = c.loop-group.group in
     let words = c.args.words.now in
     good_more u size width (groups size n) n words at _ (omega (arith, c.loop-group-test.true, c.groups_for-count.ensures.value))
-    (c.if-not-packs_codes.ensures s m ∙ ap (λ ws. is_some (first_codes (n - at * size) (u ws))) (span_is words (at * width) width)) (c.loop-group.invariant s m w)
+    (c.if-not-packs_codes.ensures m ∙ ap (λ ws. is_some (first_codes (n - at * size) (u ws))) (span_is words (at * width) width)) (c.loop-group.invariant m w)
 
 pub returns : goal.returns
-returns g c = λ s e.
+returns g c = λ e.
     let S : Shape = (g.K.Kernel.means c.args.kernel.now).facts.shape in
     let side = c.args.side in
     let u = g.K.Kernel.unpacked S side in
@@ -59,5 +59,5 @@ returns g c = λ s e.
     let words = c.args.words.now in
     let m : size ≡ S.group = size_of c.args.facts (g.K.Kernel.means c.args.kernel.now).facts e in
     let w : width ≡ words_on S side = width_of c.args.facts (g.K.Kernel.means c.args.kernel.now).facts side c.words-width.result c.words-width.ensures e in
-    good_all u size width (groups size n) n words c.loop-group.group _ (omega (arith, c.loop-group-test.false, c.groups_for-count.ensures.value)) (c.loop-group.invariant s m w)
+    good_all u size width (groups size n) n words c.loop-group.group _ (omega (arith, c.loop-group-test.false, c.groups_for-count.ensures.value)) (c.loop-group.invariant m w)
     ∙ start_at u size width S.group (words_on S side) n words m w

@@ -8,6 +8,6 @@ use Rattle.kernels.proofs.lists.first_bad.Given as goal
 
 abbrev pub invariant-loop-group : goal.invariant-loop-group
 invariant-loop-group g l =
-    g.K.Kernel.sound l.kernel → l.size ≡ (g.K.Kernel.means l.kernel).facts.shape.group → l.width ≡ words_on (g.K.Kernel.means l.kernel).facts.shape l.side
+    l.size ≡ (g.K.Kernel.means l.kernel).facts.shape.group → l.width ≡ words_on (g.K.Kernel.means l.kernel).facts.shape l.side
     → bad_group (rest_from (g.K.Kernel.unpacked (g.K.Kernel.means l.kernel).facts.shape l.side) l.size l.width (groups l.size l.n) l.n l.words l.group)
     ≡ bad_group (rest_from (g.K.Kernel.unpacked (g.K.Kernel.means l.kernel).facts.shape l.side) l.size l.width (groups l.size l.n) l.n l.words 0)

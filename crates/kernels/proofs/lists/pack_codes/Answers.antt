@@ -19,13 +19,12 @@ returns g c =
     let side = c.args.side in
     let codes = c.args.codes.now in
     let P : Facts → Type 0 = λ f. Ok tt ≡ pack_list_answer f.shape side codes (length c.args.words.now) in
-    let answer : g.K.Kernel.sound k → Ok tt ≡ pack_list_answer S side codes (length c.args.words.now) = λ s. subst P (c.facts-facts.ensures s) c.in_ok-may_pack.ensures in
-    let within : g.K.Kernel.sound k → AllByRecursion (Within (ends_on S side)) codes = λ s. packed_within 65536 (words_for S side (length codes)) S side codes (length c.args.words.now) (answer s) in
+    let answer : Ok tt ≡ pack_list_answer S side codes (length c.args.words.now) = subst P c.facts-facts.ensures c.in_ok-may_pack.ensures in
+    let within : AllByRecursion (Within (ends_on S side)) codes = packed_within 65536 (words_for S side (length codes)) S side codes (length c.args.words.now) answer in
     record {
       answer = answer;
-      after = λ s. c.write_groups.ensures s (c.facts-facts.ensures s) (within s);
-      back = λ s.
-          ap (unpacked_list (g.K.Kernel.unpacked S) S side (length codes)) (c.write_groups.ensures s (c.facts-facts.ensures s) (within s))
-          ∙ unpacks_back (g.K.Kernel.packed S) (g.K.Kernel.unpacked S) S side (g.met.K.Kernel.packs k s) (g.met.K.Kernel.unpacks k s) (zero_within S side F.shape_rules) 0 (groups S.group (length codes)) codes
-          (groups_hold S.group (length codes) F.shape_rules.2.0) (within s);
+      after = c.write_groups.ensures c.facts-facts.ensures within;
+      back = ap (unpacked_list (g.K.Kernel.unpacked S) S side (length codes)) (c.write_groups.ensures c.facts-facts.ensures within)
+          ∙ unpacks_back (g.K.Kernel.packed S) (g.K.Kernel.unpacked S) S side (g.met.K.Kernel.packs k) (g.met.K.Kernel.unpacks k) (zero_within S side F.shape_rules) 0 (groups S.group (length codes)) codes
+          (groups_hold S.group (length codes) F.shape_rules.2.0) within;
     }

@@ -4,4 +4,4 @@ use Rattle.kernels.proofs.lists.packs_codes.Given as goal
 
 abbrev pub invariant-loop-place : goal.invariant-loop-place
 invariant-loop-place g l =
-    g.K.Kernel.sound l.kernel → Zeros (g.K.Kernel.unpacked (g.K.Kernel.means l.kernel).facts.shape l.side l.words) l.used l.place
+    Zeros (g.K.Kernel.unpacked (g.K.Kernel.means l.kernel).facts.shape l.side l.words) l.used l.place

@@ -9,14 +9,14 @@ use Rattle.kernels.proofs.lists.read_group.Goals as goal
 use Rattle.kernels.proofs.lists.read_group.Goals.{in-Ok, in_default}
 
 pub loop-place-preserved : goal.loop-place-preserved
-loop-place-preserved g c = λ s all u l.
+loop-place-preserved g c = λ all u l.
     let k = c.args.kernel.now in
     let S : Shape = (g.K.Kernel.means k).facts.shape in
     let side = c.args.side in
     let words = c.args.words.now in
     let place : ℕ = c.loop-place.place in
-    let full : length all ≡ S.group = (g.met.K.Kernel.unpacks k s side words all u).0.full in
-    let long : length words ≡ words_on S side = packing_length (g.K.Kernel.packed S) (g.K.Kernel.unpacked S) S side (g.met.K.Kernel.packs k s) (g.met.K.Kernel.unpacks k s) words all u in
+    let full : length all ≡ S.group = (g.met.K.Kernel.unpacks k side words all u).0.full in
+    let long : length words ≡ words_on S side = packing_length (g.K.Kernel.packed S) (g.K.Kernel.unpacked S) S side (g.met.K.Kernel.packs k) (g.met.K.Kernel.unpacks k) words all u in
     let before : length c.loop-place.codes ≤ S.group = omega (arith, l, c.match-read_code.auto.codes) in
     let here : place < length c.loop-place.codes = omega (arith, c.loop-place-test.true, c.loop-place.auto.codes) in
     elim c.match-read_code.branch [
@@ -24,14 +24,14 @@ loop-place-preserved g c = λ s all u l.
           let f : SFits w16 w.in-Ok.code = search rules in
           ap (take (place + 1)) w.codes-is
           ∙ place_more c.loop-place.codes all place (to_z w16 (of_z w16 w.in-Ok.code)) here (omega (arith, full, before))
-          (to_z-of_z w16 w.in-Ok.code f ∙ code_read S side (length words) all place w.in-Ok.code (w.in-Ok.ensures s ∙ ap (λ o. read_at S side (length words) o place) u))
-          (c.loop-place.invariant s all u before)
-      | in_default w ↦ absurd (w.in_default.not-Ok _ (c.read_code.ensures s ∙ ap (λ o. read_at S side (length words) o place) u ∙ reads S side (length words) all place (omega (arith, here, before)) long))
+          (to_z-of_z w16 w.in-Ok.code f ∙ code_read S side (length words) all place w.in-Ok.code (w.in-Ok.ensures ∙ ap (λ o. read_at S side (length words) o place) u))
+          (c.loop-place.invariant all u before)
+      | in_default w ↦ absurd (w.in_default.not-Ok _ (c.read_code.ensures ∙ ap (λ o. read_at S side (length words) o place) u ∙ reads S side (length words) all place (omega (arith, here, before)) long))
     ]
 
 pub returns : goal.returns
-returns g c = λ s all u l.
+returns g c = λ all u l.
     let e : c.loop-place.place ≡ length c.args.codes.now = omega (arith, c.loop-place-test.false, c.loop-place.auto.place-end) in
     sym (take_all c.loop-place.place c.loop-place.codes (omega (arith, c.loop-place.auto.codes)))
-    ∙ c.loop-place.invariant s all u (omega (arith, l, c.loop-place.auto.codes))
+    ∙ c.loop-place.invariant all u (omega (arith, l, c.loop-place.auto.codes))
     ∙ ap (λ i. take i all) e

@@ -4,5 +4,5 @@ use Rattle.kernels.proofs.lists.read_group.Given as goal
 
 abbrev pub invariant-loop-place : goal.invariant-loop-place
 invariant-loop-place g l =
-    g.K.Kernel.sound l.kernel → (all : List ℤ) → g.K.Kernel.unpacked (g.K.Kernel.means l.kernel).facts.shape l.side l.words ≡ Some all
+    (all : List ℤ) → g.K.Kernel.unpacked (g.K.Kernel.means l.kernel).facts.shape l.side l.words ≡ Some all
     → length l.codes ≤ (g.K.Kernel.means l.kernel).facts.shape.group → take l.place l.codes ≡ take l.place all

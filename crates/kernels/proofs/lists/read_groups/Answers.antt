@@ -9,7 +9,7 @@ use Rattle.kernels.proofs.UnpackedLists.{read_none, read_more, read_all, list_at
 use Rattle.kernels.proofs.lists.read_groups.Goals as goal
 
 pub loop-group-init : goal.loop-group-init
-loop-group-init g c = λ s m w all h. read_none _ _ _ _ _ c.args.words.now c.args.codes.now all h
+loop-group-init g c = λ m w all h. read_none _ _ _ _ _ c.args.words.now c.args.codes.now all h
 
 pub slice_bounds-part-end : goal.slice_bounds-part-end
 slice_bounds-part-end g c =
@@ -30,7 +30,7 @@ slice_bounds-read_group-start g c =
     omega (arith, h, c.min-end.ensures)
 
 pub loop-group-preserved : goal.loop-group-preserved
-loop-group-preserved g c = λ s m w all h.
+loop-group-preserved g c = λ m w all h.
     let f = c.args.facts in
     let k = c.args.kernel.now in
     let S : Shape = (g.K.Kernel.means k).facts.shape in
@@ -46,12 +46,12 @@ loop-group-preserved g c = λ s m w all h.
     let long : length c.loop-group.codes ≡ n = c.loop-group.auto.codes in
     let short : length (take (c.min-end.result - at * size) (drop (at * size) c.loop-group.codes)) ≡ min n (at * size + size) - at * size = simp (length-take, length-drop) (omega (arith, c.min-end.ensures)) in
     read_more u size width (groups size n) n words at _ c.loop-group.codes c.read_group.new.codes all below starts long (c.read_group.auto.codes ∙ short)
-    (λ group e. (g.met.K.Kernel.unpacks k s side (take width (drop (at * width) words)) group e).0.full ∙ sym m)
-    (λ group e. c.read_group.ensures s group (ap u (span_is words (at * width) width) ∙ e) (omega (arith, short, m)) ∙ ap (λ i. take i group) short)
-    (c.loop-group.invariant s m w all h)
+    (λ group e. (g.met.K.Kernel.unpacks k side (take width (drop (at * width) words)) group e).0.full ∙ sym m)
+    (λ group e. c.read_group.ensures group (ap u (span_is words (at * width) width) ∙ e) (omega (arith, short, m)) ∙ ap (λ i. take i group) short)
+    (c.loop-group.invariant m w all h)
 
 pub returns : goal.returns
-returns g c = λ s e all h.
+returns g c = λ e all h.
     let f = c.args.facts in
     let S : Shape = (g.K.Kernel.means c.args.kernel.now).facts.shape in
     let side = c.args.side in
@@ -63,4 +63,4 @@ returns g c = λ s e all h.
     let m : size ≡ S.group = size_of c.args.facts (g.K.Kernel.means c.args.kernel.now).facts e in
     let w : width ≡ words_on S side = width_of c.args.facts (g.K.Kernel.means c.args.kernel.now).facts side c.words-width.result c.words-width.ensures e in
     read_all u size width (groups size n) n words c.loop-group.group c.loop-group.codes all (omega (arith, c.loop-group-test.false, c.groups_for-group-end.ensures.value))
-    (groups_hold size n f.shape_rules.2.0) c.loop-group.auto.codes (c.loop-group.invariant s m w all (list_at u size width S.group (words_on S side) n words m w ∙ h))
+    (groups_hold size n f.shape_rules.2.0) c.loop-group.auto.codes (c.loop-group.invariant m w all (list_at u size width S.group (words_on S side) n words m w ∙ h))

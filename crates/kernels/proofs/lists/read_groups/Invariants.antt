@@ -8,6 +8,6 @@ use Rattle.kernels.proofs.lists.read_groups.Given as goal
 
 abbrev pub invariant-loop-group : goal.invariant-loop-group
 invariant-loop-group g l =
-    g.K.Kernel.sound l.kernel → l.size ≡ (g.K.Kernel.means l.kernel).facts.shape.group → l.width ≡ words_on (g.K.Kernel.means l.kernel).facts.shape l.side
+    l.size ≡ (g.K.Kernel.means l.kernel).facts.shape.group → l.width ≡ words_on (g.K.Kernel.means l.kernel).facts.shape l.side
     → (all : List ℤ) → unpacked_groups (g.K.Kernel.unpacked (g.K.Kernel.means l.kernel).facts.shape l.side) l.size l.width 0 (groups l.size l.n) l.n l.words ≡ Ok all
     → ReadTo (g.K.Kernel.unpacked (g.K.Kernel.means l.kernel).facts.shape l.side) l.size l.width (groups l.size l.n) l.n l.words l.group l.codes all

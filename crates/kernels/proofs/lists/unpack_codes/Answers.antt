@@ -21,10 +21,10 @@ returns-in_err-may_unpack g c =
     let refusal : UnpackRefusal = c.in_err-may_unpack.field-0.0 in
     let p = err_from_is_err_and result c.from_residual.ensures.1 in
     let P : Facts → Type 0 = λ f. Err refusal ≡ sizes_answer f.shape side (length codes) words in
-    let refused = λ (s : g.K.Kernel.sound k). sizes_refuse U S side (length codes) words refusal (subst P (c.facts-facts.ensures s) c.in_err-may_unpack.ensures) in
-    let known : (s : g.K.Kernel.sound k) → ListUnpacked (g.K.Kernel.packed S) U S side (g.met.K.Kernel.packs k s) (g.met.K.Kernel.unpacks k s) (zero_within S side F.shape_rules) F.shape_rules.2.0 (length codes) words codes codes result =
-    λ s. unpack_refused (g.K.Kernel.packed S) U S side (g.met.K.Kernel.packs k s) (g.met.K.Kernel.unpacks k s) (zero_within S side F.shape_rules) F.shape_rules.2.0 (length codes) words codes result refusal (p.1 ∙ ap Err p.2) (refused s) in
-    record { answer = λ s. (known s).answer; after = λ s. (known s).after; again = λ s. (known s).again }
+    let refused = sizes_refuse U S side (length codes) words refusal (subst P c.facts-facts.ensures c.in_err-may_unpack.ensures) in
+    let known : ListUnpacked (g.K.Kernel.packed S) U S side (g.met.K.Kernel.packs k) (g.met.K.Kernel.unpacks k) (zero_within S side F.shape_rules) F.shape_rules.2.0 (length codes) words codes codes result =
+    unpack_refused (g.K.Kernel.packed S) U S side (g.met.K.Kernel.packs k) (g.met.K.Kernel.unpacks k) (zero_within S side F.shape_rules) F.shape_rules.2.0 (length codes) words codes result refusal (p.1 ∙ ap Err p.2) refused in
+    record { answer = known.answer; after = known.after; again = known.again }
 
 pub returns-in_err-check_groups : goal.returns-in_err-check_groups
 returns-in_err-check_groups g c =
@@ -40,11 +40,10 @@ returns-in_err-check_groups g c =
     let p = err_from_is_err_and result c.from_residual-in_err-check_groups.ensures.1 in
     let P : Facts → Type 0 = λ f. Ok tt ≡ sizes_answer f.shape side (length codes) words in
     let refused =
-    λ (s : g.K.Kernel.sound k).
-    sizes_pass U S side (length codes) words (Err refusal) (subst P (c.facts-facts.ensures s) c.in_ok-may_unpack.ensures) (c.in_err-check_groups.ensures s (c.facts-facts.ensures s)) in
-    let known : (s : g.K.Kernel.sound k) → ListUnpacked (g.K.Kernel.packed S) U S side (g.met.K.Kernel.packs k s) (g.met.K.Kernel.unpacks k s) (zero_within S side F.shape_rules) F.shape_rules.2.0 (length codes) words codes codes result =
-    λ s. unpack_refused (g.K.Kernel.packed S) U S side (g.met.K.Kernel.packs k s) (g.met.K.Kernel.unpacks k s) (zero_within S side F.shape_rules) F.shape_rules.2.0 (length codes) words codes result refusal (p.1 ∙ ap Err p.2) (refused s) in
-    record { answer = λ s. (known s).answer; after = λ s. (known s).after; again = λ s. (known s).again }
+    sizes_pass U S side (length codes) words (Err refusal) (subst P c.facts-facts.ensures c.in_ok-may_unpack.ensures) (c.in_err-check_groups.ensures c.facts-facts.ensures) in
+    let known : ListUnpacked (g.K.Kernel.packed S) U S side (g.met.K.Kernel.packs k) (g.met.K.Kernel.unpacks k) (zero_within S side F.shape_rules) F.shape_rules.2.0 (length codes) words codes codes result =
+    unpack_refused (g.K.Kernel.packed S) U S side (g.met.K.Kernel.packs k) (g.met.K.Kernel.unpacks k) (zero_within S side F.shape_rules) F.shape_rules.2.0 (length codes) words codes result refusal (p.1 ∙ ap Err p.2) refused in
+    record { answer = known.answer; after = known.after; again = known.again }
 
 pub returns : goal.returns
 returns g c =
@@ -56,8 +55,7 @@ returns g c =
     let codes = c.args.codes.now in
     let U = g.K.Kernel.unpacked S in
     let P : Facts → Type 0 = λ f. Ok tt ≡ sizes_answer f.shape side (length codes) words in
-    let known : (s : g.K.Kernel.sound k) → ListUnpacked (g.K.Kernel.packed S) U S side (g.met.K.Kernel.packs k s) (g.met.K.Kernel.unpacks k s) (zero_within S side F.shape_rules) F.shape_rules.2.0 (length codes) words codes c.read_groups.new.codes (Ok tt) =
-    λ s.
-    unpack_read (g.K.Kernel.packed S) U S side (g.met.K.Kernel.packs k s) (g.met.K.Kernel.unpacks k s) (zero_within S side F.shape_rules) F.shape_rules.2.0 (length codes) words codes c.read_groups.new.codes (subst P (c.facts-facts.ensures s) c.in_ok-may_unpack.ensures)
-    (c.in_ok-check_groups.ensures s (c.facts-facts.ensures s)) (c.read_groups.ensures s (c.facts-facts.ensures s)) in
-    record { answer = λ s. (known s).answer; after = λ s. (known s).after; again = λ s. (known s).again }
+    let known : ListUnpacked (g.K.Kernel.packed S) U S side (g.met.K.Kernel.packs k) (g.met.K.Kernel.unpacks k) (zero_within S side F.shape_rules) F.shape_rules.2.0 (length codes) words codes c.read_groups.new.codes (Ok tt) =
+    unpack_read (g.K.Kernel.packed S) U S side (g.met.K.Kernel.packs k) (g.met.K.Kernel.unpacks k) (zero_within S side F.shape_rules) F.shape_rules.2.0 (length codes) words codes c.read_groups.new.codes (subst P c.facts-facts.ensures c.in_ok-may_unpack.ensures)
+    (c.in_ok-check_groups.ensures c.facts-facts.ensures) (c.read_groups.ensures c.facts-facts.ensures) in
+    record { answer = known.answer; after = known.after; again = known.again }

@@ -30,7 +30,7 @@ slice_bounds-pack_group-start g c =
     omega (arith, h, c.min-end.ensures)
 
 pub loop-group-preserved : goal.loop-group-preserved
-loop-group-preserved g c = λ s m w a.
+loop-group-preserved g c = λ m w a.
     let f = c.args.facts in
     let S : Shape = (g.K.Kernel.means c.args.kernel.now).facts.shape in
     let side = c.args.side in
@@ -49,14 +49,14 @@ loop-group-preserved g c = λ s m w a.
     let part_length : length (take (at * width + width - at * width) (drop (at * width) c.loop-group.words)) ≡ width = simp (length-take, length-drop) (omega arith) in
     let written : c.pack_group.new.words ≡ g.K.Kernel.packed S side (filled S.group cut) =
     group_written S side cut _ c.pack_group.result c.pack_group.new.words _ _ (omega (arith, cut-length, f.shape_rules.2.0)) (omega (arith, cut-length, m)) (part_length ∙ w)
-    (All-take (Within (ends_on S side)) _ _ (All-drop (Within (ends_on S side)) (at * size) codes a)) (c.pack_group.ensures.answer s) (c.pack_group.ensures.after s) in
+    (All-take (Within (ends_on S side)) _ _ (All-drop (Within (ends_on S side)) (at * size) codes a)) c.pack_group.ensures.answer c.pack_group.ensures.after in
     write_more (g.K.Kernel.packed S side) size width codes c.loop-group.words c.pack_group.new.words _ at count _ below (omega arith)
     (c.pack_group.auto.words ∙ part_length)
     (written ∙ ap (λ x. g.K.Kernel.packed S side (filled x cut)) (sym m) ∙ ap (λ xs. g.K.Kernel.packed S side (filled size xs)) cut-is)
-    (c.loop-group.invariant s m w a)
+    (c.loop-group.invariant m w a)
 
 pub returns : goal.returns
-returns g c = λ s e a.
+returns g c = λ e a.
     let f = c.args.facts in
     let k = c.args.kernel.now in
     let S : Shape = (g.K.Kernel.means k).facts.shape in
@@ -68,6 +68,6 @@ returns g c = λ s e a.
     let l = words_exact f side (length codes) c.groups_for-group-end.result c.words-width.result (length c.args.words.now) c.requires.exact c.groups_for-group-end.ensures.value c.words-width.ensures in
     let count : ℕ = groups f.shape.group (length codes) in
     write_all p f.shape.group c.words-width.result codes c.loop-group.words _ c.loop-group.group count (omega (arith, c.loop-group-test.false, c.groups_for-group-end.ensures.value))
-    (c.loop-group.auto.words ∙ l ∙ ap (λ x. x * c.words-width.result) c.groups_for-group-end.ensures.value) (c.loop-group.invariant s m w a)
+    (c.loop-group.auto.words ∙ l ∙ ap (λ x. x * c.words-width.result) c.groups_for-group-end.ensures.value) (c.loop-group.invariant m w a)
     ∙ write_none p f.shape.group c.words-width.result codes c.args.words.now count
     ∙ ap (λ x. packed_groups p x (groups x (length codes)) codes) m

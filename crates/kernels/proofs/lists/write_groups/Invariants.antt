@@ -8,7 +8,7 @@ use Rattle.kernels.proofs.lists.write_groups.Given as goal
 
 abbrev pub invariant-loop-group : goal.invariant-loop-group
 invariant-loop-group g l =
-    g.K.Kernel.sound l.kernel → l.size ≡ (g.K.Kernel.means l.kernel).facts.shape.group → l.width ≡ words_on (g.K.Kernel.means l.kernel).facts.shape l.side
+    l.size ≡ (g.K.Kernel.means l.kernel).facts.shape.group → l.width ≡ words_on (g.K.Kernel.means l.kernel).facts.shape l.side
     → AllByRecursion (Within (ends_on (g.K.Kernel.means l.kernel).facts.shape l.side)) l.codes
     → take (l.group * l.width) l.words
     ++ packed_groups (g.K.Kernel.packed (g.K.Kernel.means l.kernel).facts.shape l.side) l.size (groups l.size (length l.codes) - l.group) (drop (l.group * l.size) l.codes)

@@ -3,9 +3,7 @@ use Rattle.run_console.proofs.Calls.{one_answer}
 use Rattle.run_console.proofs.state.answer_call.Goals as goal
 
 pub returns : goal.returns
-returns g c = λ sd.
-    let L = c.replay_on-next.ensures.law sd in (
-      L.0,
-      L.1,
-      λ p at. one_answer g.K.Kernel.means _ _ _ c.replay_on-next.new.answers _ p c.replay_on-next.result _ c.replay_on-next.ensures.places (L.2 p at) c.answer.ensures,
-    )
+returns g c = let L = c.replay_on-next.ensures.law in (
+  L.0,
+  λ p at. one_answer g.K.Kernel.means _ _ _ c.replay_on-next.new.answers _ p c.replay_on-next.result _ c.replay_on-next.ensures.places (L.1 p at) c.answer.ensures,
+)

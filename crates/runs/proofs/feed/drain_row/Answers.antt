@@ -11,11 +11,9 @@ returns-in-Ok-drain g c =
     let fa : SFits w64 c.args.kept.now.drained = search rules in
     let fb : SFits w64 c.in-Ok-drain.total = search rules in
     record {
-      sound = λ s. c.drain.ensures.sound s;
-      after = λ s.
-          let total = row_answered row _ _ (c.in-Ok-drain.ensures.answer s) in
-          let steps = row_answered row _ _ (c.in-Ok.ensures s) in
-          let d = c.drain.ensures.after s in
+      after = let total = row_answered row _ _ c.in-Ok-drain.ensures.answer in
+          let steps = row_answered row _ _ c.in-Ok.ensures in
+          let d = c.drain.ensures.after in
           record {
             others = d.others;
             weight_sum = refl;

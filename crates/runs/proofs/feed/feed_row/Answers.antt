@@ -9,10 +9,9 @@ returns g c =
     let fa : SFits w64 c.step_groups-drains.new.kept.weight_sum = search rules in
     let fb : SFits w64 c.args.sum = search rules in
     record {
-      sound = c.step_groups-drains.ensures.sound;
       facts = c.step_groups-drains.ensures.facts;
-      after = λ s e gain gains l few room.
-          let R = c.step_groups-drains.ensures.after s e gain gains l few room in
+      after = λ e gain gains l few room.
+          let R = c.step_groups-drains.ensures.after e gain gains l few room in
           record {
             others = R.others;
             weight_sum = wrapping_add_is w64 _ _ fa fb ∙ ap (λ (y : ℤ). int_wrap w64 (y +ℤ c.args.sum)) R.weight_sum;

@@ -9,27 +9,23 @@ use Rattle.runs.proofs.feed.step_group.Goals as goal
 pub returns-then-is_full : goal.returns-then-is_full
 returns-then-is_full g c =
     record {
-      sound = λ s. c.drain_row.ensures.sound (c.step.ensures.sound s);
-      facts = λ s. (c.drain_row.ensures.after (c.step.ensures.sound s)).others.facts ∙ (c.step.ensures.after s).others.facts;
-      after = λ s e gain l both room.
+      facts = c.drain_row.ensures.after.others.facts ∙ c.step.ensures.after.others.facts;
+      after = λ e gain l both room.
           let k = c.args.kernel.now in
           let F : Facts = (g.K.Kernel.means k).facts in
           let row = c.args.row in
-          let gains = gain_is (g.K.Kernel.packed F.shape) (g.K.Kernel.unpacked F.shape) F row ((g.K.Kernel.means k).steps row) _ _ gain (g.met.K.Kernel.packs k s) (g.met.K.Kernel.unpacks k s) l both room in
-          let s' = c.step.ensures.sound s in
-          stepped_full _ _ _ row _ _ _ gain l (sym (row_answered row _ _ (c.in-Ok.ensures s')).1 ∙ eqb-true _ _ (sym c.if-is_full.ensures) ∙ e) (grew _ _ row _ gain gains (c.step.ensures.after s)) (c.drain_row.ensures.after s');
+          let gains = gain_is (g.K.Kernel.packed F.shape) (g.K.Kernel.unpacked F.shape) F row ((g.K.Kernel.means k).steps row) _ _ gain (g.met.K.Kernel.packs k) (g.met.K.Kernel.unpacks k) l both room in
+          stepped_full _ _ _ row _ _ _ gain l (sym (row_answered row _ _ c.in-Ok.ensures).1 ∙ eqb-true _ _ (sym c.if-is_full.ensures) ∙ e) (grew _ _ row _ gain gains c.step.ensures.after) c.drain_row.ensures.after;
     }
 
 pub returns-else-is_full : goal.returns-else-is_full
 returns-else-is_full g c =
     record {
-      sound = λ s. c.step.ensures.sound s;
-      facts = λ s. (c.step.ensures.after s).others.facts;
-      after = λ s e gain l both room.
+      facts = c.step.ensures.after.others.facts;
+      after = λ e gain l both room.
           let k = c.args.kernel.now in
           let F : Facts = (g.K.Kernel.means k).facts in
           let row = c.args.row in
-          let gains = gain_is (g.K.Kernel.packed F.shape) (g.K.Kernel.unpacked F.shape) F row ((g.K.Kernel.means k).steps row) _ _ gain (g.met.K.Kernel.packs k s) (g.met.K.Kernel.unpacks k s) l both room in
-          let s' = c.step.ensures.sound s in
-          stepped_short _ _ row _ gain (λ full. not_full _ _ (sym c.if-is_full.ensures) ((row_answered row _ _ (c.in-Ok.ensures s')).1 ∙ full ∙ sym e)) (grew _ _ row _ gain gains (c.step.ensures.after s));
+          let gains = gain_is (g.K.Kernel.packed F.shape) (g.K.Kernel.unpacked F.shape) F row ((g.K.Kernel.means k).steps row) _ _ gain (g.met.K.Kernel.packs k) (g.met.K.Kernel.unpacks k) l both room in
+          stepped_short _ _ row _ gain (λ full. not_full _ _ (sym c.if-is_full.ensures) ((row_answered row _ _ c.in-Ok.ensures).1 ∙ full ∙ sym e)) (grew _ _ row _ gain gains c.step.ensures.after);
     }

@@ -32,32 +32,30 @@ slice_bounds-right-end g c =
     omega (arith, p, c.requires.activations)
 
 pub loop-group-init : goal.loop-group-init
-loop-group-init g c = (λ s. s, λ s. refl, λ s e gain gains l few room. stepped_none _ c.args.row _ gain room)
+loop-group-init g c = (refl, λ e gain gains l few room. stepped_none _ c.args.row _ gain room)
 
 pub loop-group-preserved : goal.loop-group-preserved
 loop-group-preserved g c =
     let I = c.loop-group.invariant in
     let h = c.step_group-made.ensures in (
-      λ s. h.sound (I.0 s),
-      λ s. h.facts (I.0 s) ∙ I.1 s,
-      λ s e gain gains l few room.
+      h.facts ∙ I.0,
+      λ e gain gains l few room.
           let j = c.loop-group.group in
           let F : Facts = (g.K.Kernel.means c.args.kernel.now).facts in
-          let R = I.2 s e gain gains l few room in
+          let R = I.1 e gain gains l few room in
           let same = R.others.facts in
           let interval : c.args.facts.interval ≡ (g.K.Kernel.means c.loop-group.kernel).facts.interval = ap (λ (x : Facts). x.interval) (e ∙ sym same) in
           let both = group_gains g.K.Kernel.unpacked c.args.facts F _ j c.args.groups c.args.weights.now c.args.activations.now gain e same c.loop-group-test.true gains in
-          let S = h.after (I.0 s) interval (gain j) l both (omega (arith, R.room, ap (λ (x : Facts). x.interval) same)) in
+          let S = h.after interval (gain j) l both (omega (arith, R.room, ap (λ (x : Facts). x.interval) same)) in
           stepped_more _ _ _ c.args.row _ _ _ gain j c.loop-group.drains c.step_group-made.result F.interval_rule.0 (omega (arith, few, c.loop-group-test.true)) R S,
     )
 
 pub returns : goal.returns
 returns g c =
     record {
-      sound = c.loop-group.invariant.0;
-      facts = c.loop-group.invariant.1;
-      after = λ s e gain gains l few room.
+      facts = c.loop-group.invariant.0;
+      after = λ e gain gains l few room.
           let all : c.loop-group.group ≡ c.args.groups = omega (arith, c.loop-group-test.false, c.loop-group.auto.group-end) in
           subst (λ (j : ℕ). RowStepped (g.K.Kernel.means c.args.kernel.now) c.args.row c.args.kept.now gain j c.loop-group.drains (g.K.Kernel.means c.loop-group.kernel) c.loop-group.kept) all
-          (c.loop-group.invariant.2 s e gain gains l few room);
+          (c.loop-group.invariant.1 e gain gains l few room);
     }

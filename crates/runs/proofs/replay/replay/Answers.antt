@@ -7,12 +7,10 @@ use Rattle.runs.proofs.replay.replay.Goals as goal
 pub returns : goal.returns
 returns g c =
     record {
-      law = λ sd.
-          let e = c.open.ensures.facts sd in
-          let L = c.replay_on.ensures.law (c.open.ensures.sound sd) in (
-            L.0,
-            L.1 ∙ e,
-            subst (λ (f : Facts). Lawful g.K.Kernel.means f (g.K.Kernel.unpacked f.shape) c.args.calls.now c.replay_on.new.answers (open_at []) c.replay_on.result) e (L.2 (open_at []) (refl, c.open.ensures.story sd)),
+      law = let e = c.open.ensures.facts in
+          let L = c.replay_on.ensures.law in (
+            L.0 ∙ e,
+            subst (λ (f : Facts). Lawful g.K.Kernel.means f (g.K.Kernel.unpacked f.shape) c.args.calls.now c.replay_on.new.answers (open_at []) c.replay_on.result) e (L.1 (open_at []) (refl, c.open.ensures.story)),
           );
       rest = c.replay_on.ensures.rest;
       places = c.replay_on.ensures.places;

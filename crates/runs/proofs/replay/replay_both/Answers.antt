@@ -7,7 +7,7 @@ returns g c =
     record {
       left = c.replay-first.ensures.law;
       right = c.replay-second.ensures.law;
-      agree = λ s s'. agree _ _ _ _ _ _ _ _ (c.replay-first.ensures.law s).2.reads (c.replay-second.ensures.law s').2.reads;
+      agree = agree _ _ _ _ _ _ _ _ c.replay-first.ensures.law.1.reads c.replay-second.ensures.law.1.reads;
       answers = c.replay-first.ensures.rest;
       replies = c.replay-second.ensures.rest;
       answer_places = c.replay-first.ensures.places;

@@ -5,7 +5,7 @@ use Rattle.runs.proofs.replay.replay_on.Goals as goal
 use Rattle.runs.proofs.replay.replay_on.Goals.{then-place-answers, else-place-answers}
 
 pub loop-place-init : goal.loop-place-init
-loop-place-init g c = (refl, λ sd. (sd, refl, λ p at. record { right = tt; stands = at }))
+loop-place-init g c = (refl, (refl, λ p at. record { right = tt; stands = at }))
 
 pub loop-place-preserved : goal.loop-place-preserved
 loop-place-preserved g c =
@@ -14,24 +14,20 @@ loop-place-preserved g c =
     elim c.if-place-answers.branch [
       | then-place-answers w ↦ simp (w.run-is, w.answers-is) (
         rest_written c.loop-place.answers c.args.answers.now i w.turn-next.result.1 I.0,
-        λ sd.
-            let J = I.1 sd in
-            let T = w.turn-next.ensures J.0 in (
-              T.0,
-              T.1 ∙ J.1,
+        let J = I.1 in
+            let T = w.turn-next.ensures in (
+              T.0 ∙ J.0,
               λ p at.
-                  walked_more g.K.Kernel.means g.K.Kernel.sound g.K.Kernel.unpacked _ c.args.calls.now p i c.loop-place.run w.turn-next.result.0 c.loop-place.answers _ w.turn-next.result.1 c.loop-place-test.true w.if-place-answers.true
-                  J.0 J.1 w.turn-next.ensures (J.2 p at),
+                  walked_more g.K.Kernel.means g.K.Kernel.unpacked _ c.args.calls.now p i c.loop-place.run w.turn-next.result.0 c.loop-place.answers _ w.turn-next.result.1 c.loop-place-test.true w.if-place-answers.true
+                  J.0 w.turn-next.ensures (J.1 p at),
             ),
       )
       | else-place-answers w ↦ simp (w.run-is, w.answers-is) (
         rest_next c.loop-place.answers c.args.answers.now i I.0,
-        λ sd.
-            let J = I.1 sd in (
-              J.0,
-              J.1,
-              λ p at. walked_past g.K.Kernel.means g.K.Kernel.sound g.K.Kernel.unpacked _ c.args.calls.now p i c.loop-place.run c.loop-place.answers c.loop-place-test.true w.if-place-answers.false (J.2 p at),
-            ),
+        let J = I.1 in (
+          J.0,
+          λ p at. walked_past g.K.Kernel.means g.K.Kernel.unpacked _ c.args.calls.now p i c.loop-place.run c.loop-place.answers c.loop-place-test.true w.if-place-answers.false (J.1 p at),
+        ),
       )
     ]
 
@@ -40,9 +36,8 @@ returns g c =
     let I = c.loop-place.invariant in
     let all : c.loop-place.place ≡ length c.args.calls.now = omega (arith, c.loop-place-test.false, c.loop-place.auto.place-end) in
     record {
-      law = λ sd.
-          let J = I.1 sd in
-          (J.0, J.1, λ p at. walked_all g.K.Kernel.means g.K.Kernel.sound g.K.Kernel.unpacked _ c.args.calls.now p c.loop-place.place c.loop-place.run c.loop-place.answers c.loop-place-test.false (J.2 p at));
+      law = let J = I.1 in
+          (J.0, λ p at. walked_all g.K.Kernel.means g.K.Kernel.unpacked _ c.args.calls.now p c.loop-place.place c.loop-place.run c.loop-place.answers c.loop-place-test.false (J.1 p at));
       rest = subst (λ (n : ℕ). drop n c.loop-place.answers ≡ drop n c.args.answers.now) all I.0;
       places = c.loop-place.auto.answers;
     }

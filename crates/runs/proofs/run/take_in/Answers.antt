@@ -43,9 +43,8 @@ loop-row-preserved g c =
     let I = c.loop-row.invariant in
     let h = c.feed_row-made.ensures in (
       simp length-set I.0,
-      λ sd. h.sound (I.1 sd),
-      λ sd. h.facts (I.1 sd) ∙ I.2 sd,
-      λ sd e C s t start.
+      h.facts ∙ I.1,
+      λ e C s t start.
           let k = c.args.kernel.now in
           let m = g.K.Kernel.means k in
           let F : Facts = (g.K.Kernel.means k).facts in
@@ -58,15 +57,15 @@ loop-row-preserved g c =
           let row = c.loop-row.row in
           let p = g.K.Kernel.packed F.shape in
           let u = g.K.Kernel.unpacked F.shape in
-          let packs = g.met.K.Kernel.packs k sd in
-          let unpacks = g.met.K.Kernel.unpacks k sd in
-          let T = I.3 sd e C s t start in
-          let same = I.2 sd in
+          let packs = g.met.K.Kernel.packs k in
+          let unpacks = g.met.K.Kernel.unpacks k in
+          let T = I.2 e C s t start in
+          let same = I.1 in
           let l : c.loop-row.row < F.rows = omega (arith, c.loop-row-test.true, ap (λ (x : Facts). x.rows) e) in
           let count_is : c.groups_taken-groups.result ≡ groups F.shape.group c.args.count = c.groups_taken-groups.ensures.value ∙ ap (λ (x : Facts). groups x.shape.group n) e in
           let size_is = ap (λ x. x * f.shape.weight_words) c.groups_taken-groups.ensures.value in
           let G = gains m kept s t p u packs unpacks n weights activations sums C row _ l (row_part f F n (c.groups_taken-groups.result * f.shape.weight_words) row weights size_is e) in
-          let R = h.after (I.1 sd) (e ∙ sym same) _ (gains_as g.K.Kernel.unpacked _ F c.groups_taken-groups.result _ _ activations _ same count_is G) (omega (arith, l, F.rows_rule.1)) (omega (arith, c.groups_taken-groups.ensures.few, c.requires.few))
+          let R = h.after (e ∙ sym same) _ (gains_as g.K.Kernel.unpacked _ F c.groups_taken-groups.result _ _ activations _ same count_is G) (omega (arith, l, F.rows_rule.1)) (omega (arith, c.groups_taken-groups.ensures.few, c.requires.few))
           (has_room m kept s t p u packs unpacks n weights activations sums C row _ c.loop-row.kept l T) in
           let fits : SFits w64 (get_or c.args.sums.now.weights c.loop-row.row (pos 0)) = search rules in
           taken_more m kept s t p u packs unpacks n weights activations sums C row _ c.loop-row.kept _ c.feed_row-made.new.kept c.feed_row-made.result c.counted-kept.result c.counted-kept.ensures _ c.groups_taken-groups.result l I.0
@@ -79,9 +78,8 @@ returns g c =
     let fa : SFits w64 c.loop-row.kept.activation_sum = search rules in
     let fb : SFits w64 c.args.sums.now.activations = search rules in
     record {
-      sound = I.1;
-      facts = I.2;
-      after = λ sd e C s t.
+      facts = I.1;
+      after = λ e C s t.
           let k = c.args.kernel.now in
           let m = g.K.Kernel.means k in
           let F : Facts = (g.K.Kernel.means k).facts in
@@ -89,13 +87,13 @@ returns g c =
           let rows_are : c.args.facts.rows ≡ F.rows = ap (λ (x : Facts). x.rows) e in
           let p = g.K.Kernel.packed F.shape in
           let u = g.K.Kernel.unpacked F.shape in
-          let packs = g.met.K.Kernel.packs k sd in
-          let unpacks = g.met.K.Kernel.unpacks k sd in
+          let packs = g.met.K.Kernel.packs k in
+          let unpacks = g.met.K.Kernel.unpacks k in
           let start = taken_none m c.args.kept.now s t p u packs unpacks n c.args.weights.now c.args.activations.now c.args.sums.now C in
           let steps_are =
           c.counted-kept-2.ensures ∙ ap (λ (x : ℕ). (c.loop-row.kept.steps + x) % 18446744073709551616) c.steps_of.ensures
           ∙ ap (λ (x : ℕ). (c.loop-row.kept.steps + c.args.facts.rows * x) % 18446744073709551616) c.groups_taken-groups.ensures.value
           ∙ ap (λ (x : Facts). (c.loop-row.kept.steps + x.rows * groups x.shape.group n) % 18446744073709551616) e in
           taken_all m c.args.kept.now s t p u packs unpacks n c.args.weights.now c.args.activations.now c.args.sums.now C _
-          c.loop-row.kept c.loop-row.row _ _ _ (omega (arith, c.loop-row-test.false, c.loop-row.auto.row-end, rows_are)) (wrapping_add_is w64 _ _ fa fb) c.accepted_with-kept.ensures steps_are (I.3 sd e C s t start);
+          c.loop-row.kept c.loop-row.row _ _ _ (omega (arith, c.loop-row-test.false, c.loop-row.auto.row-end, rows_are)) (wrapping_add_is w64 _ _ fa fb) c.accepted_with-kept.ensures steps_are (I.2 e C s t start);
     }

@@ -14,9 +14,8 @@ invariant-loop-row g l =
     let F = (g.K.Kernel.means l.initial.kernel).facts in
     let u = g.K.Kernel.unpacked (g.K.Kernel.means l.initial.kernel).facts.shape in
     (length l.kept.rows ≡ 64)
-    × (g.K.Kernel.sound l.initial.kernel → g.K.Kernel.sound l.kernel)
-    × (g.K.Kernel.sound l.initial.kernel → (g.K.Kernel.means l.kernel).facts ≡ (g.K.Kernel.means l.initial.kernel).facts)
-    × (g.K.Kernel.sound l.initial.kernel → l.facts ≡ (g.K.Kernel.means l.initial.kernel).facts
+    × ((g.K.Kernel.means l.kernel).facts ≡ (g.K.Kernel.means l.initial.kernel).facts)
+    × (l.facts ≡ (g.K.Kernel.means l.initial.kernel).facts
     → Checked u F l.initial.kept.accepted l.count l.weights l.activations (Ok l.sums)
     → (s : Story) → Tells (g.K.Kernel.means l.initial.kernel) l.initial.kept s
     → TakenTo (g.K.Kernel.means l.initial.kernel) l.initial.kept s

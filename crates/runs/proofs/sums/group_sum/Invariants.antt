@@ -5,5 +5,5 @@ use Rattle.runs.proofs.sums.group_sum.Given as goal
 
 abbrev pub invariant-loop-place : goal.invariant-loop-place
 invariant-loop-place g l =
-    g.K.Kernel.sound l.kernel → l.size ≡ (g.K.Kernel.means l.kernel).facts.shape.group
+    l.size ≡ (g.K.Kernel.means l.kernel).facts.shape.group
     → SummedTo (g.K.Kernel.unpacked (g.K.Kernel.means l.kernel).facts.shape l.side l.words) l.used l.place l.sum

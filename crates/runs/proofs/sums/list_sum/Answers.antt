@@ -13,7 +13,7 @@ use Rattle.runs.proofs.Totals.{total_none, total_more, total_bad, total_all}
 use Rattle.runs.proofs.sums.list_sum.Goals as goal
 
 pub loop-group-init : goal.loop-group-init
-loop-group-init g c = λ s m w.
+loop-group-init g c = λ m w.
     let S : Shape = (g.K.Kernel.means c.args.kernel.now).facts.shape in
     let size : ℕ = c.args.facts.shape.group in
     total_none (rest_from (g.K.Kernel.unpacked S c.args.side) size c.words-width.result (groups size c.args.count) c.args.count c.args.words.now 0)
@@ -31,7 +31,7 @@ overflow_sub-count g c =
     omega (arith, h)
 
 pub returns-in-None : goal.returns-in-None
-returns-in-None g c = λ s e.
+returns-in-None g c = λ e.
     let S : Shape = (g.K.Kernel.means c.args.kernel.now).facts.shape in
     let side = c.args.side in
     let u = g.K.Kernel.unpacked S side in
@@ -43,11 +43,11 @@ returns-in-None g c = λ s e.
     let m : size ≡ S.group = size_of c.args.facts (g.K.Kernel.means c.args.kernel.now).facts e in
     let w : width ≡ words_on S side = width_of c.args.facts (g.K.Kernel.means c.args.kernel.now).facts side c.words-width.result c.words-width.ensures e in
     total_bad u size width (groups size n) n words at _ _ (omega (arith, c.loop-group-test.true, c.groups_taken-group-end.ensures.value))
-    (c.in-None.ensures s m ∙ ap (λ ws. group_total (first_codes (n - at * size) (u ws))) (span_is words (at * width) width)) (c.loop-group.invariant s m w)
+    (c.in-None.ensures m ∙ ap (λ ws. group_total (first_codes (n - at * size) (u ws))) (span_is words (at * width) width)) (c.loop-group.invariant m w)
     ∙ ap list_total (rest_none u size width (groups size n) n words ∙ list_at u size width S.group (words_on S side) n words m w)
 
 pub loop-group-preserved : goal.loop-group-preserved
-loop-group-preserved g c = λ s m w.
+loop-group-preserved g c = λ m w.
     let S : Shape = (g.K.Kernel.means c.args.kernel.now).facts.shape in
     let u = g.K.Kernel.unpacked S c.args.side in
     let size : ℕ = c.args.facts.shape.group in
@@ -57,10 +57,10 @@ loop-group-preserved g c = λ s m w.
     let words = c.args.words.now in
     let fits : SFits w64 c.in-Some.more = search rules in
     total_more u size width (groups size n) n words at _ _ _ c.in-Some.more (omega (arith, c.loop-group-test.true, c.groups_taken-group-end.ensures.value))
-    (c.in-Some.ensures s m ∙ ap (λ ws. group_total (first_codes (n - at * size) (u ws))) (span_is words (at * width) width)) (wrapping_add_onto w64 _ c.in-Some.more c.loop-group.auto.sum.fits fits) (c.loop-group.invariant s m w)
+    (c.in-Some.ensures m ∙ ap (λ ws. group_total (first_codes (n - at * size) (u ws))) (span_is words (at * width) width)) (wrapping_add_onto w64 _ c.in-Some.more c.loop-group.auto.sum.fits fits) (c.loop-group.invariant m w)
 
 pub returns : goal.returns
-returns g c = λ s e.
+returns g c = λ e.
     let S : Shape = (g.K.Kernel.means c.args.kernel.now).facts.shape in
     let side = c.args.side in
     let u = g.K.Kernel.unpacked S side in
@@ -70,5 +70,5 @@ returns g c = λ s e.
     let words = c.args.words.now in
     let m : size ≡ S.group = size_of c.args.facts (g.K.Kernel.means c.args.kernel.now).facts e in
     let w : width ≡ words_on S side = width_of c.args.facts (g.K.Kernel.means c.args.kernel.now).facts side c.words-width.result c.words-width.ensures e in
-    total_all u size width (groups size n) n words c.loop-group.group _ _ (omega (arith, c.loop-group-test.false, c.groups_taken-group-end.ensures.value)) (to_z-Fits w64 _ c.loop-group.auto.sum) (c.loop-group.invariant s m w)
+    total_all u size width (groups size n) n words c.loop-group.group _ _ (omega (arith, c.loop-group-test.false, c.groups_taken-group-end.ensures.value)) (to_z-Fits w64 _ c.loop-group.auto.sum) (c.loop-group.invariant m w)
     ∙ ap list_total (rest_none u size width (groups size n) n words ∙ list_at u size width S.group (words_on S side) n words m w)

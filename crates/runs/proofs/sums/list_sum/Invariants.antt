@@ -9,6 +9,6 @@ use Rattle.runs.proofs.sums.list_sum.Given as goal
 
 abbrev pub invariant-loop-group : goal.invariant-loop-group
 invariant-loop-group g l =
-    g.K.Kernel.sound l.kernel → l.size ≡ (g.K.Kernel.means l.kernel).facts.shape.group → l.width ≡ words_on (g.K.Kernel.means l.kernel).facts.shape l.side
+    l.size ≡ (g.K.Kernel.means l.kernel).facts.shape.group → l.width ≡ words_on (g.K.Kernel.means l.kernel).facts.shape l.side
     → on_total l.sum (rest_from (g.K.Kernel.unpacked (g.K.Kernel.means l.kernel).facts.shape l.side) l.size l.width (groups l.size l.count) l.count l.words l.group)
     ≡ list_total (rest_from (g.K.Kernel.unpacked (g.K.Kernel.means l.kernel).facts.shape l.side) l.size l.width (groups l.size l.count) l.count l.words 0)

@@ -26,7 +26,7 @@ slice_bounds-part-end g c =
     omega (arith, p, e, c.requires.exact)
 
 pub returns-in-Err : goal.returns-in-Err
-returns-in-Err g c = λ s e.
+returns-in-Err g c = λ e.
     let f = c.args.facts in
     let F : Facts = (g.K.Kernel.means c.args.kernel.now).facts in
     let u = g.K.Kernel.unpacked F.shape in
@@ -35,13 +35,13 @@ returns-in-Err g c = λ s e.
     let size : ℕ = c.groups_taken.result * f.shape.weight_words in
     let row = c.loop-row.row in
     let part = row_part f F n size row weights (ap (λ x. x * f.shape.weight_words) c.groups_taken.ensures.value) e in
-    let bad = not_totalled _ c.in-Err.group (c.in-Err.ensures s e ∙ ap (λ (ws : List ℕ). list_total (unpacked_list u F.shape Weights n ws)) part) in
-    row_bad (row_codes u F.shape n weights) row c.in-Err.group F.rows (c.loop-row.invariant.1 s e).0 bad (omega (arith, c.loop-row-test.true, ap (λ (x : Facts). x.rows) e))
+    let bad = not_totalled _ c.in-Err.group (c.in-Err.ensures e ∙ ap (λ (ws : List ℕ). list_total (unpacked_list u F.shape Weights n ws)) part) in
+    row_bad (row_codes u F.shape n weights) row c.in-Err.group F.rows (c.loop-row.invariant.1 e).0 bad (omega (arith, c.loop-row-test.true, ap (λ (x : Facts). x.rows) e))
 
 pub loop-row-preserved : goal.loop-row-preserved
 loop-row-preserved g c = (
   simp length-set c.loop-row.invariant.0,
-  λ s e.
+  λ e.
       let f = c.args.facts in
       let F : Facts = (g.K.Kernel.means c.args.kernel.now).facts in
       let u = g.K.Kernel.unpacked F.shape in
@@ -52,12 +52,12 @@ loop-row-preserved g c = (
       let fits : SFits w64 c.in-Ok.sum = search rules in
       let part = row_part f F n size row weights (ap (λ x. x * f.shape.weight_words) c.groups_taken.ensures.value) e in
       rows_more (row_codes u F.shape n weights) row c.in-Ok.sum _ c.loop-row.sums (to_z-of_z w64 c.in-Ok.sum fits) (omega (arith, c.loop-row.invariant.0, c.loop-row-test.true, f.rows_rule.1))
-      (c.in-Ok.ensures s e ∙ ap (λ (ws : List ℕ). list_total (unpacked_list u F.shape Weights n ws)) part) (c.loop-row.invariant.1 s e),
+      (c.in-Ok.ensures e ∙ ap (λ (ws : List ℕ). list_total (unpacked_list u F.shape Weights n ws)) part) (c.loop-row.invariant.1 e),
 )
 
 pub returns : goal.returns
-returns g c = λ s e.
+returns g c = λ e.
     let F : Facts = (g.K.Kernel.means c.args.kernel.now).facts in
-    let I = c.loop-row.invariant.1 s e in
+    let I = c.loop-row.invariant.1 e in
     let all : c.loop-row.row ≡ F.rows = omega (arith, c.loop-row-test.false, c.loop-row.auto.row-end, ap (λ (x : Facts). x.rows) e) in
     (subst (λ (k : ℕ). first_bad_row (row_codes (g.K.Kernel.unpacked F.shape) F.shape c.args.count c.args.weights.now) k ≡ None) all I.0, λ r l. I.1 r (omega arith))

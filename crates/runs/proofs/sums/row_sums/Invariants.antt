@@ -7,6 +7,6 @@ use Rattle.runs.proofs.sums.row_sums.Given as goal
 abbrev pub invariant-loop-row : goal.invariant-loop-row
 invariant-loop-row g l =
     (length l.sums ≡ 64)
-    × (g.K.Kernel.sound l.kernel → l.facts ≡ (g.K.Kernel.means l.kernel).facts
+    × (l.facts ≡ (g.K.Kernel.means l.kernel).facts
     → (first_bad_row (row_codes (g.K.Kernel.unpacked (g.K.Kernel.means l.kernel).facts.shape) (g.K.Kernel.means l.kernel).facts.shape l.count l.weights) l.row ≡ None)
     × ((r : ℕ) → r < l.row → get_or l.sums r (pos 0) ≡ codes_total (codes_of (row_codes (g.K.Kernel.unpacked (g.K.Kernel.means l.kernel).facts.shape) (g.K.Kernel.means l.kernel).facts.shape l.count l.weights r))))

@@ -15,4 +15,4 @@ returns c =
     let asked = c.in_ok-ask.ensures in
     let all : length c.args.self.now.rows ≡ 64 = search rules in
     let s = lanes_step (p1_lanes c.args.self.now) c.args.row c.add.new.self all c.args.weights.now c.args.activations.now asked.yes c.add.ensures.steps c.add.ensures.accumulator in
-    record { sound = λ _. tt; answer = λ _. asked.answer; after = λ _. s.after }
+    record { answer = asked.answer; after = s.after }

@@ -15,4 +15,4 @@ pub returns : goal.returns
 returns c =
     let all : length c.args.self.now.rows ≡ 64 = search rules in
     let d = lanes_drain (p2_lanes c.args.self.now) c.args.row c.clear.new.self all c.if-row-ge64.false c.clear.ensures.steps c.clear.ensures.accumulator in
-    record { sound = λ _. tt; answer = λ _. drain_answer c.args.row c.total-total.result _ c.if-row-ge64.false c.total-total.type_inv c.total-total.ensures; after = λ _. d.after }
+    record { answer = drain_answer c.args.row c.total-total.result _ c.if-row-ge64.false c.total-total.type_inv c.total-total.ensures; after = d.after }

@@ -26,7 +26,6 @@ returns c =
     let f = c.facts-facts.result in
     let l = c.new-lanes.result in
     record {
-      sound = tt;
       facts = c.facts-facts.ensures;
       empty = empty_means empty_p2 (total_of (λ q. q.accumulator) l) (λ q. q.steps) (total_none (λ q. q.steps) (λ q. q.accumulator) f l empty_p2 refl) refl 64;
     }

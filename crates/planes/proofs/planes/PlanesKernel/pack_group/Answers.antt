@@ -19,6 +19,6 @@ returns c =
     let k = c.args.self.now in
     let asked = c.in_ok-ask_group.ensures in
     record {
-      answer = λ _. asked.answer;
-      after = λ _. c.write_planes.ensures ∙ packed_filled k.facts.shape c.args.side c.args.codes.now (length c.args.words.now) asked.yes.words_are;
+      answer = asked.answer;
+      after = c.write_planes.ensures ∙ packed_filled k.facts.shape c.args.side c.args.codes.now (length c.args.words.now) asked.yes.words_are;
     }

@@ -8,7 +8,7 @@ pub returns-in_err-ask_code : goal.returns-in_err-ask_code
 returns-in_err-ask_code c = search (rules, code_refused)
 
 pub returns : goal.returns
-returns c _ =
+returns c =
     let fits : SFits w16 c.code_at.result = search rules in
     simp to_z-of_z
     (code_read c.args.self.now.facts.shape c.args.side c.args.words.now c.args.place c.code_at.result c.in_ok-ask_code.ensures.yes c.type_inv.words c.code_at.ensures)

@@ -8,7 +8,7 @@ pub returns-in_err-ask : goal.returns-in_err-ask
 returns-in_err-ask c =
     let p = err_from_is_err_and c.from_residual.result c.from_residual.ensures.1 in
     let answer = c.in_err-ask.ensures.answer in
-    rw (p.1, p.2) (record { sound = λ _. tt; answer = λ _. answer; after = λ _. step_refused c.args.row _ _ _ answer })
+    rw (p.1, p.2) (record { answer = answer; after = step_refused c.args.row _ _ _ answer })
 
 pub add-requires : goal.add-requires
 add-requires c =
@@ -29,4 +29,4 @@ returns c =
     let all : length c.args.self.now.rows ≡ 64 = search rules in
     let s = table_steps c.args.self.now c.args.row c.plane_sum-sum.result c.args.weights.now c.args.activations.now asked.yes c.plane_sum-sum.ensures
     c.add.new.self all c.add.ensures.steps c.add.ensures.lane in
-    record { sound = λ _. tt; answer = λ _. asked.answer; after = λ _. s.after }
+    record { answer = asked.answer; after = s.after }

@@ -11,4 +11,4 @@ invariant_of-result c =
     record { shape_rule = r.shape; lane_rule = r.lane; rows_rule = table_fill empty_row (RowHolds (most_of f.shape)) 64 (omega arith) }
 
 pub returns : goal.returns
-returns c = record { sound = tt; facts = c.facts.ensures; empty = empty_means empty_row (λ r. pos r.lane) (λ r. r.steps) refl refl 64 }
+returns c = record { facts = c.facts.ensures; empty = empty_means empty_row (λ r. pos r.lane) (λ r. r.steps) refl refl 64 }

@@ -11,13 +11,11 @@ returns-in_err-sums g c =
     let p = err_from_is_err_and c.from_residual.result c.from_residual.ensures.1 in
     rw (p.1, p.2) (record {
       refused = refl;
-      sound = λ s. s;
-      after = λ s. record { facts = refl; answer = sym (c.in_err-sums.ensures.checked s (c.facts-facts.ensures s)); story = tt };
-      packs = λ s.
-          let k = c.args.self.now.kernel in
+      after = record { facts = refl; answer = sym (c.in_err-sums.ensures.checked c.facts-facts.ensures); story = tt };
+      packs = let k = c.args.self.now.kernel in
           let F : Facts = (g.K.Kernel.means k).facts in
-          feed_refused (g.K.Kernel.packed F.shape) (g.K.Kernel.unpacked F.shape) F (g.met.K.Kernel.packs k s) (g.met.K.Kernel.unpacks k s) c.args.self.now.kept.accepted c.args.count c.args.weights.now c.args.activations.now _
-          (c.in_err-sums.ensures.checked s (c.facts-facts.ensures s));
+          feed_refused (g.K.Kernel.packed F.shape) (g.K.Kernel.unpacked F.shape) F (g.met.K.Kernel.packs k) (g.met.K.Kernel.unpacks k) c.args.self.now.kept.accepted c.args.count c.args.weights.now c.args.activations.now _
+          (c.in_err-sums.ensures.checked c.facts-facts.ensures);
     })
 
 pub take_in-requires : goal.take_in-requires
@@ -30,14 +28,11 @@ pub returns : goal.returns
 returns g c =
     record {
       refused = tt;
-      sound = λ s. c.take_in.ensures.sound s;
-      after = λ s.
-          let e = c.facts-facts.ensures s in
-          let checked = c.in_ok-sums.ensures.checked s e in
-          record { facts = c.take_in.ensures.facts s; answer = sym checked.0; story = c.take_in.ensures.after s e checked };
-      packs = λ s.
-          let k = c.args.self.now.kernel in
+      after = let e = c.facts-facts.ensures in
+          let checked = c.in_ok-sums.ensures.checked e in
+          record { facts = c.take_in.ensures.facts; answer = sym checked.0; story = c.take_in.ensures.after e checked };
+      packs = let k = c.args.self.now.kernel in
           let F : Facts = (g.K.Kernel.means k).facts in
-          let checked = c.in_ok-sums.ensures.checked s (c.facts-facts.ensures s) in
-          feed_packs (g.K.Kernel.packed F.shape) (g.K.Kernel.unpacked F.shape) F (g.met.K.Kernel.packs k s) (g.met.K.Kernel.unpacks k s) c.args.self.now.kept.accepted c.args.count c.args.weights.now c.args.activations.now checked.0;
+          let checked = c.in_ok-sums.ensures.checked c.facts-facts.ensures in
+          feed_packs (g.K.Kernel.packed F.shape) (g.K.Kernel.unpacked F.shape) F (g.met.K.Kernel.packs k) (g.met.K.Kernel.unpacks k) c.args.self.now.kept.accepted c.args.count c.args.weights.now c.args.activations.now checked.0;
     }

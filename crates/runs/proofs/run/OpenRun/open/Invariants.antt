@@ -5,5 +5,4 @@ use Rattle.runs.proofs.run.OpenRun.open.Given as goal
 
 abbrev pub invariant-loop-row : goal.invariant-loop-row
 invariant-loop-row g l =
-    g.K.Kernel.sound l.initial.kernel
-    → g.K.Kernel.sound l.kernel × ((g.K.Kernel.means l.kernel).facts ≡ (g.K.Kernel.means l.initial.kernel).facts) × (EmptyBelow (g.K.Kernel.means l.initial.kernel) 0 → EmptyBelow (g.K.Kernel.means l.kernel) l.row)
+    ((g.K.Kernel.means l.kernel).facts ≡ (g.K.Kernel.means l.initial.kernel).facts) × (EmptyBelow (g.K.Kernel.means l.initial.kernel) 0 → EmptyBelow (g.K.Kernel.means l.kernel) l.row)

@@ -8,8 +8,7 @@ use Rattle.runs.proofs.run.OpenRun.settle.Given as goal
 abbrev pub invariant-loop-row : goal.invariant-loop-row
 invariant-loop-row g l =
     (length l.kept.rows ≡ 64)
-    × (g.K.Kernel.sound l.initial.kernel
-    → g.K.Kernel.sound l.kernel × ((g.K.Kernel.means l.kernel).facts ≡ (g.K.Kernel.means l.initial.kernel).facts)
+    × (((g.K.Kernel.means l.kernel).facts ≡ (g.K.Kernel.means l.initial.kernel).facts)
     × ((s : Story) → Tells (g.K.Kernel.means l.initial.kernel) l.initial.kept s → l.row ≤ (g.K.Kernel.means l.initial.kernel).facts.rows
     → SettledTo (g.K.Kernel.means l.initial.kernel) l.initial.kept s 0 (g.K.Kernel.means l.initial.kernel) l.initial.kept
     → SettledTo (g.K.Kernel.means l.initial.kernel) l.initial.kept s l.row (g.K.Kernel.means l.kernel) l.kept))

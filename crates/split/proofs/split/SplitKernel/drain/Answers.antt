@@ -15,4 +15,4 @@ returns c =
     let all : length c.args.self.now.rows ≡ 64 = search rules in
     let d = drain_table c.args.self.now c.args.row c.clear.new.self all c.if-row-ge64.false c.clear.ensures.steps c.clear.ensures.first c.clear.ensures.second in
     let answer = signed_answer c.args.row c.total-total.result _ c.if-row-ge64.false (record { sfits = c.total-total.type_inv }) c.total-total.ensures in
-    record { sound = λ _. tt; answer = λ _. answer; after = λ _. d.after }
+    record { answer = answer; after = d.after }

@@ -12,4 +12,4 @@ invariant_of-result c =
     record { shape_rule = k.shape; lane_rule = k.lane; rows_rule = table_fill empty_row (Holds f) 64 (cleared f empty_row refl refl refl) }
 
 pub returns : goal.returns
-returns c = record { sound = tt; facts = c.facts.ensures; empty = empty_means empty_row row_total (λ r. r.steps) refl refl 64 }
+returns c = record { facts = c.facts.ensures; empty = empty_means empty_row row_total (λ r. r.steps) refl refl 64 }
