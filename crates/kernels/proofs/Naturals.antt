@@ -1,5 +1,5 @@
 -- Codes from 0 on, as natural numbers.
-use Rattle.std.proofs.Common.{◌≡◌, ℕ, ◌+◌, ◌-◌, ◌*◌, ◌^◌, ◌≤◌, List, [], ◌∷◌, map, length, ℤ, pos, negsuc, ◌+ℤ◌, ◌*ℤ◌, nat_abs, refl, ap, ◌∙◌, mul-le-mul, arith}
+use Rattle.std.proofs.Common.{◌≡◌, ℕ, ◌+◌, ◌-◌, ◌*◌, ◌^◌, ◌≤◌, List, [], ◌∷◌, map, length, ℤ, pos, negsuc, ◌+ℤ◌, ◌*ℤ◌, ◌≤ℤ◌, nat_abs, refl, ap, ◌∙◌, mul-le-mul, arith}
 use lib.Lanes.{Each1}
 use Rattle.std.specs.List.{AllByRecursion}
 use Rattle.std.proofs.lemmas.Simd.{map-map}
@@ -10,6 +10,10 @@ use Rattle.plans.specs.Kinds.{bit_ends}
 use Rattle.kernels.specs.Groups.{dot}
 
 -- ---- codes of so many bits
+
+pub abs_of : (z : ℤ) → pos 0 ≤ℤ z → pos (nat_abs z) ≡ z
+abs_of (pos n) h = refl
+abs_of (negsuc n) h = absurd (omega (arith, ints))
 
 pub abs_pos : (xs : List ℕ) → map nat_abs (map pos xs) ≡ xs
 abs_pos xs = map-map nat_abs pos xs ∙ map-id xs

@@ -2,4 +2,3 @@ pub mod Reading
 pub mod Stepping
 pub mod RowTables
 pub mod Planning
-pub mod Makes

@@ -6,7 +6,6 @@ use Rattle.std.proofs.lemmas.Bool.{cases_lt}
 use Rattle.codes.specs.declared.shape.Shape.{Shape}
 use Rattle.codes.specs.declared.facts.Facts.{Facts}
 use Rattle.codes.specs.Codes.{Range}
-use Rattle.plans.specs.declared.kind.Kind.{Kind}
 use Rattle.plans.specs.declared.kind.Kind.TheVariants.{P1, P2}
 use Rattle.plans.specs.declared.request.Request.{Request}
 use Rattle.plans.specs.Answers.{RangesHold, LaneHolds}
@@ -16,7 +15,7 @@ use Rattle.plans.proofs.LaneBound.{lane_bound}
 use Rattle.lanes.specs.Lanes.{bits_up_to, p1_width, p2_width}
 use Rattle.lanes.specs.Rows.{ShapeFits, most_of}
 use Rattle.lanes.specs.Packings.{lane_shape}
-use Rattle.lanes.proofs.Stepping.{Kept}
+use Rattle.lanes.specs.Makes.{Ready}
 
 -- ---- a lane that holds the products of an interval holds each code
 
@@ -44,13 +43,6 @@ size_small_other h d x y w hh hd hx lane =
 shape_fits : (s : Shape) (d x y : ℕ) → s ≡ lane_shape d x y → ShapeFits s d x y
 shape_fits s d x y e = subst (λ (t : Shape). ShapeFits t d x y) (sym e) ((refl, refl), (refl, refl), refl, refl, refl)
 
--- what is known of the lanes of a make before they are made, and what its kernel then keeps to
-pub record Ready (bits : ℕ) (f : Facts) (w v d x y : ℕ) : Type 0 where
-  pub narrow : w ≤ 16
-  pub depth : Range 1 8 d
-  pub width_is : w ≡ v
-  pub kept : Kept bits f w d x y
-
 ready : (bits : ℕ) (f : Facts) (w v d x y h : ℕ) → w ≤ 16 → Range 1 8 d → Range 1 8 x → Range 1 8 y → 1 ≤ h → f.interval ≡ h
     → h * most_of d x y < 2 ^ w → (x ≤ w → w * (d - 1) + x ≤ 16) → (y ≤ w → w * (d - 1) + y ≤ 16) → w * d ≤ bits → f.shape ≡ lane_shape d x y → w ≡ v
     → Ready bits f w v d x y
@@ -69,13 +61,10 @@ ready bits f w v d x y h narrow hd hx hy hh eh lane endx endy fits es ev =
       };
     }
 
--- the same of equal numbers and an equal width, and of lanes whose fields are equal to those numbers
-pub ready_as : (kind : Kind) (bits : ℕ) (f : Facts) (v : ℕ) (m n : Request) (w : ℕ) → Ready bits f (lane_width kind m) v m.depth m.weight_size m.activation_size
-    → n ≡ m → w ≡ lane_width kind n → Ready bits f w v n.depth n.weight_size n.activation_size
-ready_as kind bits f v m n w r e ew = rw (ew, e) r
-
-pub kept_as : (bits : ℕ) (f : Facts) (w d x y w' d' x' y' : ℕ) → Kept bits f w d x y → w' ≡ w → d' ≡ d → x' ≡ x → y' ≡ y → Kept bits f w' d' x' y'
-kept_as bits f w d x y w' d' x' y' k ew ed ex ey = rw (ew, ed, ex, ey) k
+-- the same of equal numbers
+pub ready_as : (bits : ℕ) (f : Facts) (w v : ℕ) (m n : Request) → Ready bits f w v m.depth m.weight_size m.activation_size → n ≡ m
+    → Ready bits f w v n.depth n.weight_size n.activation_size
+ready_as bits f w v m n r e = rw e r
 
 lanes_all : (w d : ℕ) → 1 ≤ d → w * d ≡ w * (d - 1) + w
 lanes_all w d h =

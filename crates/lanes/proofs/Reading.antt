@@ -1,5 +1,5 @@
 -- What is read of words: one code, whether they are a packing, and their codes.
-use Rattle.std.proofs.Common.{◌≡◌, ℕ, zero, suc, ◌-◌, ◌*◌, ◌/◌, ◌%◌, ◌^◌, ◌<◌, ◌≤◌, true, List, length, get_or, ℤ, pos, is_some, Some, sym, refl, ap, ◌∙◌, subst, mul-le-mul_left, div-one, arith, pow_mono, w16, to_z}
+use Rattle.std.proofs.Common.{◌≡◌, ℕ, zero, suc, ◌-◌, ◌*◌, ◌/◌, ◌%◌, ◌^◌, ◌<◌, ◌≤◌, true, List, length, get_or, ℤ, pos, is_some, Some, sym, refl, ap, ◌∙◌, subst, mul-le-mul_left, div-one, arith, pow_mono, w16, to_z, SFits, rules}
 use native.Mathlib.Nat.{pow-zero, pow-succ', div-div-eq-div-mul}
 use lib.ListN.{get_or-map}
 use lib.Lanes.{digits_l}
@@ -61,14 +61,24 @@ lane_fits w d size side place lane fits h e =
     let m : lane ≤ d - 1 = omega arith in
     omega (arith, mul-le-mul_left w m, fits.2)
 
-pub code_is : (w d size : ℕ) (side : Side) (v place lane r : ℕ) → SizeFits w d size → place < d → is_packed_word (2 ^ w) d (2 ^ size - 1) v ≡ true
-    → lane ≡ lane_for side d place → r ≡ lane_of w lane v → to_z w16 r ≡ get_or (codes_in (2 ^ w) d side v) place (pos 0)
-code_is w d size side v place lane r fits h ok el er =
-    let e : r ≡ lane_of w (lane_for side d place) v = er ∙ ap (λ (z : ℕ). lane_of w z v) el in
-    let f : lane_of w (lane_for side d place) v ≤ 2 ^ size - 1 = code_small w d (2 ^ size - 1) side v place h ok in
-    let m : 2 ^ size ≤ 2 ^ 8 = pow_mono fits.0.1 in
-    let g : r < 2 ^ hbits w16 = omega arith in
-    to_z_pos w16 r g ∙ ap pos e ∙ sym (code_at_is w d side v place h)
+module _ (w d size : ℕ) (side : Side) (v place lane r : ℕ) (fits : SizeFits w d size) (h : place < d) (ok : is_packed_word (2 ^ w) d (2 ^ size - 1) v ≡ true)
+    (el : lane ≡ lane_for side d place) (er : r ≡ lane_of w lane v) where
+  below : r < 2 ^ hbits w16
+  below =
+      let f : lane_of w (lane_for side d place) v ≤ 2 ^ size - 1 = code_small w d (2 ^ size - 1) side v place h ok in
+      let m : 2 ^ size ≤ 2 ^ 8 = pow_mono fits.0.1 in
+      let e : r ≡ lane_of w (lane_for side d place) v = er ∙ ap (λ (z : ℕ). lane_of w z v) el in
+      omega arith
+
+  pub lane_small : SFits w16 (pos r)
+  lane_small =
+      let b : r < 2 ^ hbits w16 = below in
+      search rules
+
+  pub code_is : to_z w16 r ≡ get_or (codes_in (2 ^ w) d side v) place (pos 0)
+  code_is =
+      let e : r ≡ lane_of w (lane_for side d place) v = er ∙ ap (λ (z : ℕ). lane_of w z v) el in
+      to_z_pos w16 r below ∙ ap pos e ∙ sym (code_at_is w d side v place h)
 
 -- ---- packings
 

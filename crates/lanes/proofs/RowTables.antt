@@ -1,67 +1,94 @@
--- A step and a drain of the rows of a kernel of lanes, whatever record a row is.
-use Rattle.std.proofs.Common.{◌≡◌, ℕ, ◌+◌, ◌*◌, ◌%◌, ◌^◌, ◌<◌, List, length, get_or, ℤ, pos, ap}
-use Rattle.codes.specs.declared.facts.Facts.{Facts}
+-- A step and a drain of the rows of a kernel of lanes.
+use Rattle.std.proofs.Common.{◌≡◌, ℕ, ◌+◌, ◌*◌, ◌%◌, ◌^◌, ◌<◌, ◌≤◌, List, length, get_or, replicate, ℤ, pos, sym, refl, ap, subst, ◌∙◌, arith}
+use Rattle.std.proofs.lemmas.List.{get_or_default}
 use Rattle.kernels.specs.Answers.{step_gain}
 use Rattle.kernels.specs.Allowed.{StepAllowed}
-use Rattle.kernels.proofs.Tables.{TableStepped, table_steps, TableDrained, table_drains}
+use Rattle.kernels.proofs.Tables.{table_fill, empty_means, TableStepped, table_steps, TableDrained, table_drains}
 use Rattle.lanes.specs.declared.lanes.Lanes.{Lanes}
+use Rattle.lanes.specs.declared.row.LaneRow.{LaneRow}
 use Rattle.lanes.specs.Lanes.{read_lane}
 use Rattle.lanes.specs.Words.{unpacked_lanes}
 use Rattle.lanes.specs.Rows.{most_of, RowHolds}
-use Rattle.lanes.proofs.Stepping.{Kept, next_row, empty_reads, empty_holds}
+use Rattle.lanes.specs.Tables.{empty_row}
+use Rattle.lanes.specs.Makes.{Kept}
+use Rattle.lanes.specs.Sizes.{laid}
+use Rattle.lanes.proofs.Stepping.{next_row, empty_reads, empty_holds}
 
 -- the total that a row means, and what holds of it
-abbrev pub total_of : {R : Type 0} → (accumulator : R → ℕ) → Lanes → R → ℤ
-total_of accumulator l r = pos (read_lane l.width l.depth (accumulator r))
+abbrev pub total_of : {A : Type 0} → (value : A → ℕ) → Lanes → LaneRow A → ℤ
+total_of value l r = pos (read_lane l.width l.depth (value r.accumulator))
 
-abbrev pub Holds : {R : Type 0} → (steps accumulator : R → ℕ) → Facts → Lanes → R → Type 0
-Holds steps accumulator f l r = RowHolds l.width l.depth (most_of l.depth l.weight_size l.activation_size) f.interval (steps r) (accumulator r)
+abbrev pub Holds : {A : Type 0} → (value : A → ℕ) → Lanes → LaneRow A → Type 0
+Holds value l r = RowHolds l.width l.depth (most_of l.depth l.weight_size l.activation_size) l.facts.interval r.steps (value r.accumulator)
 
 -- a row with steps and accumulator 0
-module _ {R : Type 0} (steps accumulator : R → ℕ) (f : Facts) (l : Lanes) (r : R) (none : accumulator r ≡ 0) where
-  pub total_none : total_of accumulator l r ≡ pos 0
+module _ {A : Type 0} (value : A → ℕ) (l : Lanes) (r : LaneRow A) (none : value r.accumulator ≡ 0) where
+  pub total_none : total_of value l r ≡ pos 0
   total_none = rw none (ap pos (empty_reads l.width l.depth))
 
-  pub holds_none : steps r ≡ 0 → Holds steps accumulator f l r
-  holds_none start = rw (none, start) (empty_holds l.width l.depth (most_of l.depth l.weight_size l.activation_size) f.interval)
+  pub holds_none : r.steps ≡ 0 → Holds value l r
+  holds_none start = rw (none, start) (empty_holds l.width l.depth (most_of l.depth l.weight_size l.activation_size) l.facts.interval)
+
+-- a table of rows that are all empty
+module _ {A : Type 0} (value : A → ℕ) (l : Lanes) (none : A) (none_is : value none ≡ 0) (r : LaneRow A) (empty : r ≡ empty_row none) where
+  pub holds_new : (j : ℕ) → Holds value l (get_or (replicate 64 r) j (empty_row none))
+  holds_new =
+      subst (λ (e : LaneRow A). (j : ℕ) → Holds value l (get_or (replicate 64 e) j (empty_row none))) (sym empty)
+      (table_fill (empty_row none) (Holds value l) 64 (holds_none value l (empty_row none) none_is refl))
+
+  pub means_new : (j : ℕ) → (total_of value l (get_or (replicate 64 r) j (empty_row none)) ≡ pos 0) × ((get_or (replicate 64 r) j (empty_row none)).steps ≡ 0)
+  means_new =
+      subst (λ (e : LaneRow A). (j : ℕ) → (total_of value l (get_or (replicate 64 e) j (empty_row none)) ≡ pos 0) × ((get_or (replicate 64 e) j (empty_row none)).steps ≡ 0)) (sym empty)
+      (empty_means (empty_row none) (total_of value l) (λ q. q.steps) (total_none value l (empty_row none) none_is) refl 64)
 
 -- a kernel with accumulators of so many bits, whose make has a name for the width of its lanes
-pub record LaneKernel (bits : ℕ) (R : Type 0) : Type 0 where
-  pub empty : R
-  pub steps : R → ℕ
-  pub accumulator : R → ℕ
-  pub facts : Facts
+pub record LaneTable (bits : ℕ) (A : Type 0) : Type 0 where
+  pub none : A
+  pub value : A → ℕ
+  pub none_is : value none ≡ 0
   pub lanes : Lanes
   pub width : ℕ
-  pub rows : List R
+  pub rows : List (LaneRow A)
   pub width_is : lanes.width ≡ width
-  pub kept : Kept bits facts lanes.width lanes.depth lanes.weight_size lanes.activation_size
-  pub hold : (j : ℕ) → Holds steps accumulator facts lanes (get_or rows j empty)
+  pub fits : lanes.width * lanes.depth ≤ bits
+  pub lane : lanes.facts.interval * most_of lanes.depth lanes.weight_size lanes.activation_size < 2 ^ lanes.width
+  pub hold : (j : ℕ) → Holds value lanes (get_or rows j (empty_row none))
 
-module _ {bits : ℕ} {R : Type 0} (k : LaneKernel bits R) (row : ℕ) (new : R) (all : length k.rows ≡ 64) where
+module _ {bits : ℕ} {A : Type 0} (k : LaneTable bits A) (row : ℕ) (new : LaneRow A) (all : length k.rows ≡ 64) where
+  kept : Kept bits k.lanes.facts k.lanes.width k.lanes.depth k.lanes.weight_size k.lanes.activation_size
+  kept = record { shape = k.lanes.shape_rule; laid = laid k.lanes; fits = k.fits; lane = k.lane }
+
+  abbrev old : LaneRow A
+  old = get_or k.rows row (empty_row k.none)
+
   -- the table with the new row, after a step by lanes of a width, or after a drain
   abbrev StepsTo : (width : ℕ) → (weights activations : List ℕ) → Type 0
   StepsTo width weights activations =
-      TableStepped k.empty (total_of k.accumulator k.lanes) k.steps (Holds k.steps k.accumulator k.facts k.lanes) k.facts k.rows row
-      (step_gain (unpacked_lanes width k.facts.shape) k.facts row (k.steps (get_or k.rows row k.empty)) weights activations) new
+      TableStepped (empty_row k.none) (total_of k.value k.lanes) (λ r. r.steps) (Holds k.value k.lanes) k.lanes.facts k.rows row
+      (step_gain (unpacked_lanes width k.lanes.facts.shape) k.lanes.facts row old.steps weights activations) new
 
   abbrev DrainsTo : Type 0
-  DrainsTo = TableDrained k.empty (total_of k.accumulator k.lanes) k.steps (Holds k.steps k.accumulator k.facts k.lanes) k.facts k.rows row new
+  DrainsTo = TableDrained (empty_row k.none) (total_of k.value k.lanes) (λ r. r.steps) (Holds k.value k.lanes) k.lanes.facts k.rows row new
 
-  pub lanes_step : (weights activations : List ℕ)
-      → StepAllowed (unpacked_lanes k.lanes.width k.facts.shape) k.facts row (k.steps (get_or k.rows row k.empty)) weights activations
-      → k.steps new ≡ k.steps (get_or k.rows row k.empty) + 1
-      → k.accumulator new ≡ (k.accumulator (get_or k.rows row k.empty) + (get_or weights 0 0 * get_or activations 0 0) % 2 ^ bits) % 2 ^ bits
+  -- the row before, whatever stands past the table
+  pub lanes_step : (weights activations : List ℕ) (past : LaneRow A)
+      → StepAllowed (unpacked_lanes k.lanes.width k.lanes.facts.shape) k.lanes.facts row old.steps weights activations
+      → new.steps ≡ (get_or k.rows row past).steps + 1
+      → k.value new.accumulator ≡ (k.value (get_or k.rows row past).accumulator + (get_or weights 0 0 * get_or activations 0 0) % 2 ^ bits) % 2 ^ bits
       → StepsTo k.width weights activations
-  lanes_step weights activations asked es ea =
+  lanes_step weights activations past asked steps accumulator =
       let l = k.lanes in
-      let f = k.facts in
-      let old = get_or k.rows row k.empty in
-      let n = next_row bits f l.width k.width l.depth l.weight_size l.activation_size k.kept k.width_is row (k.steps old) (k.accumulator old)
-      (k.steps new) (k.accumulator new) weights activations asked (k.hold row) es ea in
-      table_steps k.empty _ k.steps _ f k.rows row _ new all asked.row_lt k.hold n.holds n.total n.steps
+      let there : row < length k.rows = omega (arith, asked.row_lt) in
+      let same : get_or k.rows row past ≡ old = get_or_default k.rows row past (empty_row k.none) there in
+      let es = steps ∙ ap (λ (r : LaneRow A). r.steps + 1) same in
+      let ea = accumulator ∙ ap (λ (r : LaneRow A). (k.value r.accumulator + (get_or weights 0 0 * get_or activations 0 0) % 2 ^ bits) % 2 ^ bits) same in
+      let n = next_row bits l.facts l.width k.width l.depth l.weight_size l.activation_size kept k.width_is row old.steps (k.value old.accumulator)
+      new.steps (k.value new.accumulator) weights activations asked (k.hold row) es ea in
+      table_steps (empty_row k.none) _ (λ r. r.steps) _ l.facts k.rows row _ new all asked.row_lt k.hold n.holds n.total n.steps
 
-  pub lanes_drain : row < 64 → k.steps new ≡ 0 → k.accumulator new ≡ 0 → DrainsTo
-  lanes_drain lt es ea =
-      table_drains k.empty _ k.steps _ k.facts k.rows row new all lt k.hold
-      (holds_none k.steps k.accumulator k.facts k.lanes new ea es) (total_none k.steps k.accumulator k.facts k.lanes new ea) es
+  pub lanes_drain : row < 64 → new ≡ empty_row k.none → DrainsTo
+  lanes_drain lt e =
+      let none = ap (λ (r : LaneRow A). k.value r.accumulator) e ∙ k.none_is in
+      let start = ap (λ (r : LaneRow A). r.steps) e in
+      table_drains (empty_row k.none) _ (λ r. r.steps) _ k.lanes.facts k.rows row new all lt k.hold
+      (holds_none k.value k.lanes new none start) (total_none k.value k.lanes new none) start

@@ -11,11 +11,11 @@ use Rattle.kernels.proofs.Gains.{gain_is}
 use Rattle.kernels.proofs.Naturals.{dot_n, dot_pos}
 use Rattle.lanes.specs.Lanes.{read_lane}
 use Rattle.lanes.specs.Words.{is_packed_word, unpacked_lanes, rep}
-use Rattle.lanes.specs.Rows.{ShapeFits, most_of, below_lane, RowHolds}
+use Rattle.lanes.specs.Rows.{most_of, below_lane, RowHolds}
+use Rattle.lanes.specs.Makes.{Kept}
 use Rattle.lanes.specs.Product.{lane_at, under_lane}
 use Rattle.lanes.specs.Masks.{pow_lanes}
 use Rattle.lanes.specs.Digits.{Stepped, step_plain}
-use Rattle.lanes.specs.Packings.{Laid}
 use Rattle.lanes.proofs.Reading.{found}
 
 read_is : (w d acc : ℕ) → read_lane w d acc ≡ lane_at (2 ^ w) (d - 1) acc
@@ -23,13 +23,6 @@ read_is w d acc = ap (λ (z : ℕ). acc / z % 2 ^ w) (pow_lanes w (d - 1))
 
 below_is : (w d acc : ℕ) → below_lane w d acc ≡ under_lane (2 ^ w) (d - 1) acc
 below_is w d acc = ap (λ (z : ℕ). acc % z) (pow_lanes w (d - 1))
-
--- what a kernel of lanes with accumulators of so many bits keeps to
-pub record Kept (bits : ℕ) (f : Facts) (w d x y : ℕ) : Type 0 where
-  pub shape : ShapeFits f.shape d x y
-  pub laid : Laid w d x y
-  pub fits : w * d ≤ bits
-  pub lane : f.interval * most_of d x y < 2 ^ w
 
 -- the lane after a step that adds so much
 pub record NextLane (w d most interval sum acc made' acc' : ℕ) : Type 0 where

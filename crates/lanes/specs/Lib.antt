@@ -7,3 +7,4 @@ pub mod Product
 pub mod Masks
 pub mod Digits
 pub mod Sizes
+pub mod Makes

@@ -23,7 +23,7 @@ use Rattle.kernels.proofs.Naturals.{abs_pos, naturals, most_within}
 use Rattle.kernels.proofs.TestedWords.{some_parts, one_passes, set_one}
 use Rattle.lanes.specs.Lanes.{lane_for, word_from}
 use Rattle.lanes.specs.Words.{is_packed_word, is_packing, ordered, codes_in, packed_lanes, unpacked_lanes, rep, mask_of}
-use Rattle.lanes.specs.Rows.{SizeFits, ShapeFits, size_on}
+use Rattle.lanes.specs.Rows.{SizeFits, Laid, ShapeFits, size_on}
 use Rattle.lanes.specs.Product.{high_n}
 use Rattle.lanes.specs.Masks.{pow_lanes, top_below, mask_fits_depth}
 use Rattle.lanes.specs.Digits.{each_reverse, high_reverse, word_number, word_each, length_digits}
@@ -56,12 +56,6 @@ shape_is s d x y f =
     ∙ ap (λ (n : ℕ). shape_with (bit_ends x) (bit_ends y) n s.weight_words s.activation_words) f.2
     ∙ ap (λ (n : ℕ). shape_with (bit_ends x) (bit_ends y) d n s.activation_words) f.3
     ∙ ap (λ (n : ℕ). shape_with (bit_ends x) (bit_ends y) d 1 n) f.4
-
--- what the lemmas know of lanes
-pub record Laid (w d x y : ℕ) : Type 0 where
-  pub depth : 1 ≤ d
-  pub weights : SizeFits w d x
-  pub activations : SizeFits w d y
 
 pub side_fits : (w d x y : ℕ) → Laid w d x y → (side : Side) → SizeFits w d (size_on x y side)
 side_fits w d x y l Weights = l.weights

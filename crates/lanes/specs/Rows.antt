@@ -12,6 +12,12 @@ use Rattle.lanes.specs.Words.{rep}
 abbrev pub SizeFits : (width depth size : ℕ) → Type 0
 SizeFits width depth size = Range 1 8 size × (size ≤ width) × (width * (depth - 1) + size ≤ 16)
 
+-- lanes that hold codes of both sides
+pub record Laid (w d x y : ℕ) : Type 0 where
+  pub depth : 1 ≤ d
+  pub weights : SizeFits w d x
+  pub activations : SizeFits w d y
+
 -- the size of a side
 abbrev pub size_on : (weight-size activation-size : ℕ) → Side → ℕ
 size_on weight-size activation-size Weights = weight-size

@@ -2,8 +2,8 @@
 use Rattle.std.specs.Prelude.{ℕ}
 use Rattle.codes.specs.declared.side.Side.{Side}
 use Rattle.lanes.specs.declared.lanes.Lanes.{Lanes}
-use Rattle.lanes.specs.Rows.{SizeFits, size_on}
-use Rattle.lanes.specs.Packings.{Laid, side_fits}
+use Rattle.lanes.specs.Rows.{SizeFits, Laid, size_on}
+use Rattle.lanes.specs.Packings.{side_fits}
 
 pub laid : (l : Lanes) → Laid l.width l.depth l.weight_size l.activation_size
 laid l = record { depth = l.depth_rule.0; weights = l.weights_rule; activations = l.activations_rule }

@@ -5,11 +5,8 @@ ghost use Rattle.kernels.specs.Groups.{filled};
 ghost use Rattle.kernels.specs.Answers.{group_answer, code_answer, step_answer, step_gain};
 ghost use Rattle.kernels.specs.Allowed.{StepAllowed};
 ghost use Rattle.lanes.specs.Words.{packed_lanes, unpacked_lanes, is_packing};
-ghost use Rattle.lanes.specs.Rows.{ShapeFits};
 
 use crate::lanes::Lanes;
-use codes::facts::Facts;
-use codes::shape::Shape;
 use codes::side::Side;
 use kernels::questions::{ask_code, ask_group, ask_step, lengths_fit};
 use kernels::refusal::{CodeRefusal, PackRefusal, StepRefusal};
@@ -18,16 +15,14 @@ impl Lanes {
     // Packs a group of codes into its word.
     pub(crate) fn pack_group(
         &self,
-        shape: &Shape,
         side: Side,
         codes: &[i16],
         words: &mut [u16],
     ) -> Result<(), PackRefusal>
-        requires { ShapeFits shape.now self.now.depth self.now.weight_size self.now.activation_size }
-        ensures answer { result ≡ group_answer shape.now side codes.now (length words.old) }
-        ensures after { (width : ℕ) → self.now.width ≡ width → words.new ≡ (if is_ok result then packed_lanes width shape.now side (filled shape.now.group codes.now) else words.old) }
+        ensures answer { result ≡ group_answer self.now.facts.shape side codes.now (length words.old) }
+        ensures after { (width : ℕ) → self.now.width ≡ width → words.new ≡ (if is_ok result then packed_lanes width self.now.facts.shape side (filled self.now.facts.shape.group codes.now) else words.old) }
     {
-        ask_group(shape, side, codes, words.len())?;
+        ask_group(&self.facts.shape, side, codes, words.len())?;
         words[0] = self.word(side, codes);
         Ok(())
     }
@@ -35,16 +30,14 @@ impl Lanes {
     // The code at a place of a packed group.
     pub(crate) fn read_code(
         &self,
-        shape: &Shape,
         side: Side,
         words: &[u16],
         place: usize,
     ) -> Result<i16, CodeRefusal>
-        requires { ShapeFits shape.now self.now.depth self.now.weight_size self.now.activation_size }
-        ensures { (width : ℕ) → self.now.width ≡ width → result ≡ code_answer (unpacked_lanes width shape.now) shape.now side words.now place }
+        ensures { (width : ℕ) → self.now.width ≡ width → result ≡ code_answer (unpacked_lanes width self.now.facts.shape) self.now.facts.shape side words.now place }
     {
         ask_code(
-            shape,
+            &self.facts.shape,
             side,
             words.len(),
             self.is_packing(side, words),
@@ -56,21 +49,19 @@ impl Lanes {
     // The questions of a step of a row that has made so many steps.
     pub(crate) fn ask_step(
         &self,
-        facts: &Facts,
         row: usize,
         steps: u32,
         weights: &[u16],
         activations: &[u16],
     ) -> Result<(), StepRefusal>
-        requires { ShapeFits facts.now.shape self.now.depth self.now.weight_size self.now.activation_size }
-        ensures answer { (width : ℕ) → self.now.width ≡ width → result ≡ step_answer (step_gain (unpacked_lanes width facts.now.shape) facts.now row steps weights.now activations.now) }
-        ensures yes { OnOk result (StepAllowed (unpacked_lanes self.now.width facts.now.shape) facts.now row steps weights.now activations.now) }
+        ensures answer { (width : ℕ) → self.now.width ≡ width → result ≡ step_answer (step_gain (unpacked_lanes width self.now.facts.shape) self.now.facts row steps weights.now activations.now) }
+        ensures yes { OnOk result (StepAllowed (unpacked_lanes self.now.width self.now.facts.shape) self.now.facts row steps weights.now activations.now) }
     {
         ask_step(
             row < 64,
-            lengths_fit(&facts.shape, weights.len(), activations.len()),
+            lengths_fit(&self.facts.shape, weights.len(), activations.len()),
             self.are_packings(weights, activations),
-            may_step(facts, steps),
+            self.may_step(steps),
         )
     }
 
@@ -80,11 +71,11 @@ impl Lanes {
     {
         self.is_packing(Side::Weights, weights) && self.is_packing(Side::Activations, activations)
     }
-}
 
-// Whether a row that has made so many steps may make one more before it is drained.
-fn may_step(facts: &Facts, steps: u32) -> bool
-    ensures { result ≡ nat_lt steps facts.now.interval }
-{
-    steps < facts.interval
+    // Whether a row that has made so many steps may make one more before it is drained.
+    fn may_step(&self, steps: u32) -> bool
+        ensures { result ≡ nat_lt steps self.now.facts.interval }
+    {
+        steps < self.facts.interval
+    }
 }

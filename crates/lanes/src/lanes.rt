@@ -5,20 +5,28 @@ ghost use Rattle.codes.specs.Codes.{Range, Within};
 ghost use Rattle.plans.specs.Kinds.{bit_ends};
 ghost use Rattle.lanes.specs.Lanes.{lane_for, lane_of, word_from, read_lane};
 ghost use Rattle.lanes.specs.Words.{is_packed_word, is_packing, codes_in, mask_of};
-ghost use Rattle.lanes.specs.Rows.{SizeFits, size_on};
+ghost use Rattle.lanes.specs.Rows.{SizeFits, ShapeFits, size_on};
+ghost use Rattle.lanes.specs.Makes.{Kept};
+ghost use Rattle.plans.specs.Plans.{FactsOf};
 
+use crate::make::LaneMake;
+use codes::facts::Facts;
 use codes::side::Side;
+use plans::checked_plan::CheckedPlan;
+use plans::plan::Plan;
 
-// The bits of a lane, the codes of a word, the bits of the codes of each side, and the mask of each side: the word of its
-// highest codes. A word is a packing just where it has no bit outside the mask of its side.
+// What a kernel keeps to, the bits of a lane, the codes of a word, the bits of the codes of each side, and the mask of each
+// side: the word of its highest codes. A word is a packing just where it has no bit outside the mask of its side.
 #[derive(Clone, Copy)]
 pub(crate) struct Lanes {
+    pub(crate) facts: Facts,
     width: u32,
     depth: u32,
     weight_size: u32,
     activation_size: u32,
     weight_mask: u16,
     activation_mask: u16,
+    ghost shape_rule: { ShapeFits facts.shape depth weight_size activation_size },
     ghost width_rule: { width ≤ 16 },
     ghost depth_rule: { Range 1 8 depth },
     ghost weights_rule: { SizeFits width depth weight_size },
@@ -28,17 +36,20 @@ pub(crate) struct Lanes {
 }
 
 impl Lanes {
-    pub(crate) fn new(width: u32, depth: u32, weight_size: u32, activation_size: u32) -> Lanes
-        requires width { width ≤ 16 }
-        requires depth { Range 1 8 depth }
-        requires weights { SizeFits width depth weight_size }
-        requires activations { SizeFits width depth activation_size }
-        ensures width { result.width ≡ width }
-        ensures depth { result.depth ≡ depth }
-        ensures weights { result.weight_size ≡ weight_size }
-        ensures activations { result.activation_size ≡ activation_size }
+    // The lanes of a plan's words.
+    pub(crate) fn of_plan<M: LaneMake>(plan: &Plan<M>) -> Lanes
+        ensures facts { FactsOf M.PlanKind.KIND plan.now.numbers result.facts }
+        ensures width { result.width ≡ M.width result.facts.shape }
+        ensures kept { Kept M.Accumulator.bits result.facts result.width result.depth result.weight_size result.activation_size }
     {
+        let facts = plan.facts();
+        let numbers = plan.numbers();
+        let width = M::lane_width(plan);
+        let depth = numbers.depth as u32;
+        let weight_size = numbers.weight_size as u32;
+        let activation_size = numbers.activation_size as u32;
         Lanes {
+            facts,
             width,
             depth,
             weight_size,
@@ -56,7 +67,7 @@ impl Lanes {
     {
         let mut word = 0u32;
         for (place, code) in codes.iter().enumerate() {
-            word += unsigned(*code) << (self.width * self.lane(side, place as u32));
+            word += (code.unsigned_abs() as u32) << (self.width * self.lane(side, place as u32));
         }
         word as u16
     }
@@ -135,12 +146,4 @@ fn lane_of(word: u32, width: u32, lane: u32) -> u32
     ensures { result ≡ lane_of width lane word }
 {
     (word >> (width * lane)) & ((1u32 << width) - 1)
-}
-
-// A code that is at least 0, as a number without sign.
-fn unsigned(code: i16) -> u32
-    requires { pos 0 ≤ℤ code }
-    ensures { pos result ≡ code }
-{
-    code as u32
 }

@@ -1,0 +1,41 @@
+// What a row of a lane kernel keeps: its steps since the last drain, and an accumulator.
+ghost use Rattle.std.specs.Prelude.{◌≡◌, ◌+◌, ◌*◌, ◌%◌, ◌^◌, ◌<◌};
+ghost use Rattle.lanes.specs.Tables.{empty_row};
+
+use crate::accumulator::Accumulator;
+
+#[derive(Clone, Copy)]
+pub(crate) struct LaneRow<A> {
+    pub(crate) steps: u32,
+    pub(crate) accumulator: A,
+}
+
+impl<A: Accumulator> LaneRow<A> {
+    // A row without steps.
+    pub(crate) fn empty() -> LaneRow<A>
+        ensures { result ≡ empty_row A.ZERO }
+    {
+        LaneRow {
+            steps: 0,
+            accumulator: A::ZERO,
+        }
+    }
+
+    // Adds the product of two words, cut to the bits of the accumulator.
+    pub(crate) fn add(&mut self, weights: u16, activations: u16)
+        requires { self.old.steps < 65536 }
+        ensures steps { self.new.steps ≡ self.old.steps + 1 }
+        ensures accumulator { A.value self.new.accumulator ≡ (A.value self.old.accumulator + (weights * activations) % 2 ^ A.bits) % 2 ^ A.bits }
+    {
+        self.accumulator = self.accumulator.add_product(weights, activations);
+        self.steps += 1;
+    }
+
+    // Sets the total and the steps to 0.
+    pub(crate) fn clear(&mut self)
+        ensures { self.new ≡ empty_row A.ZERO }
+    {
+        self.steps = 0;
+        self.accumulator = A::ZERO;
+    }
+}
