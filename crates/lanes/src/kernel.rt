@@ -54,11 +54,10 @@ impl<M: LaneMake> Kernel for LaneKernel<M> {
     }
 
     fn steps(&self, row: usize) -> Result<u32, RowRefusal> {
-        if row < 64 {
-            Ok(self.rows[row].steps)
-        } else {
-            Err(RowRefusal::Row)
-        }
+        self.rows
+            .get(row)
+            .map(|record| record.steps)
+            .ok_or(RowRefusal::Row)
     }
 
     fn pack_group(&self, side: Side, codes: &[i16], words: &mut [u16]) -> Result<(), PackRefusal> {

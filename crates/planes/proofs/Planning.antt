@@ -2,7 +2,8 @@
 use Rattle.std.proofs.Common.{◌*◌, ◌^◌, ◌<◌, refl, arith}
 use Rattle.codes.specs.declared.facts.Facts.{Facts}
 use Rattle.plans.specs.declared.kind.Kind.TheVariants.{Planes as PlanesKind}
-use Rattle.plans.specs.declared.plan.PlanesPlan.{PlanesPlan}
+use Rattle.plans.specs.declared.request.Request.{Request}
+use Rattle.plans.specs.Answers.{LaneHolds}
 use Rattle.plans.specs.Kinds.{shape_of}
 use Rattle.plans.specs.Plans.{FactsOf}
 use Rattle.plans.proofs.LaneBound.{lane_bound}
@@ -12,9 +13,8 @@ pub record Ready (f : Facts) : Type 0 where
   pub shape : ShapeFits f.shape
   pub lane : f.interval * most_of f.shape < 2 ^ 32
 
-pub ready : (p : PlanesPlan) (f : Facts) → FactsOf PlanesKind p.numbers f → Ready f
-ready p f facts =
-    let n = p.numbers in
-    let bound = lane_bound PlanesKind n n.interval p.lane in
-    let lane : p.numbers.interval * most_of (shape_of PlanesKind p.numbers) < 2 ^ 32 = omega (arith, bound) in
+pub ready : (n : Request) (f : Facts) → LaneHolds PlanesKind n → FactsOf PlanesKind n f → Ready f
+ready n f holds facts =
+    let bound = lane_bound PlanesKind n n.interval holds in
+    let lane : n.interval * most_of (shape_of PlanesKind n) < 2 ^ 32 = omega (arith, bound) in
     record { shape = rw facts.shape ((refl, refl), (refl, refl), refl); lane = rw (facts.shape, facts.interval) lane }

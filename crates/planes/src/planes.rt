@@ -7,7 +7,7 @@ ghost use Rattle.planes.specs.Rows.{ShapeFits, RowHolds, most_of, empty_row, pla
 ghost use Rattle.planes.specs.Packings;
 
 use crate::planes_row::PlanesRow;
-use crate::words::{code_at, plane_sum, write_planes};
+use crate::words::{PlaneWords, write_planes};
 use codes::facts::Facts;
 use codes::side::Side;
 use kernels::kernel::Kernel;
@@ -44,11 +44,10 @@ impl Kernel for Planes {
     }
 
     fn steps(&self, row: usize) -> Result<u32, RowRefusal> {
-        if row < 64 {
-            Ok(self.rows[row].steps)
-        } else {
-            Err(RowRefusal::Row)
-        }
+        self.rows
+            .get(row)
+            .map(|record| record.steps)
+            .ok_or(RowRefusal::Row)
     }
 
     fn pack_group(&self, side: Side, codes: &[i16], words: &mut [u16]) -> Result<(), PackRefusal> {
@@ -59,7 +58,7 @@ impl Kernel for Planes {
 
     fn read_code(&self, side: Side, words: &[u16], place: usize) -> Result<i16, CodeRefusal> {
         ask_code(&self.facts.shape, side, words.len(), true, place)?;
-        Ok(code_at(words, place))
+        Ok(PlaneWords { words }.code_at(place))
     }
 
     fn step(
@@ -69,7 +68,9 @@ impl Kernel for Planes {
         activations: &[u16],
     ) -> Result<(), StepRefusal> {
         self.ask(row, weights, activations)?;
-        let sum = plane_sum(weights, activations);
+        let weights = PlaneWords { words: weights };
+        let activations = PlaneWords { words: activations };
+        let sum = weights.sum_with(&activations);
         let record = &mut self.rows[row];
         record.add(sum);
         Ok(())

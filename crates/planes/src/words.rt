@@ -1,5 +1,5 @@
 // The words of a group: plane k holds bit k of its codes, that of the code at place i at bit i.
-ghost use Rattle.std.specs.Prelude.{◌≡◌, ◌+◌, ◌*◌, ◌^◌, ◌<◌, ◌≤◌, map, length, pos, ◌≤ℤ◌, unsigned_abs};
+ghost use Rattle.std.specs.Prelude.{◌≡◌, ℕ, ◌+◌, ◌*◌, ◌^◌, ◌<◌, ◌≤◌, map, length, pos, slice_index, unsigned_abs};
 ghost use Rattle.std.specs.List.{AllByRecursion};
 ghost use Rattle.codes.specs.Codes.{Within};
 ghost use Rattle.plans.specs.Kinds.{bit_ends};
@@ -18,30 +18,49 @@ pub(crate) fn write_planes(codes: &[i16], words: &mut [u16])
     }
 }
 
-// The code at a place of a group.
-pub(crate) fn code_at(words: &[u16], place: usize) -> i16
-    requires words { length words.now ≤ 8 }
-    requires place { place < 16 }
-    ensures { result ≡ pos (plane place words.now) }
-{
-    let mut code = 0u32;
-    for (k, word) in words.iter().enumerate() {
-        code += bit_in_code(*word, k, place);
-    }
-    code as i16
+// The planes of a packed group.
+#[derive(Clone, Copy)]
+pub(crate) struct PlaneWords<'a> {
+    pub(crate) words: &'a [u16],
+    ghost few: { length words.now ≤ 8 },
+    ghost fit: { (k : ℕ) → slice_index words.now k < 2 ^ 16 },
 }
 
-// The sum over planes: the ones that each two planes k and m share, times 2^(k + m).
-pub(crate) fn plane_sum(weights: &[u16], activations: &[u16]) -> u32
-    requires weights { length weights.now ≤ 8 }
-    requires activations { length activations.now ≤ 8 }
-    ensures { result ≡ plane_sum weights.now activations.now }
-{
-    let mut sum = 0u32;
-    for (k, plane) in weights.iter().enumerate() {
-        sum += shared_by(*plane, k, activations);
+impl<'a> PlaneWords<'a> {
+    // The code at a place of the group.
+    pub(crate) fn code_at(&self, place: usize) -> i16
+        requires { place < 16 }
+        ensures { result ≡ pos (plane place self.now.words.now) }
+    {
+        let mut code = 0u32;
+        for (k, word) in self.words.iter().enumerate() {
+            code += bit_in_code(*word, k, place);
+        }
+        code as i16
     }
-    sum
+
+    // The sum over planes: the ones that each two planes k and m share, times 2^(k + m).
+    pub(crate) fn sum_with(&self, activations: &PlaneWords<'_>) -> u32
+        ensures { result ≡ plane_sum self.now.words.now activations.now.words.now }
+    {
+        let mut sum = 0u32;
+        for (k, plane) in self.words.iter().enumerate() {
+            sum += activations.shared_with(*plane, k);
+        }
+        sum
+    }
+
+    // What plane k of the weights adds to the sum over planes.
+    fn shared_with(&self, weights: u16, k: usize) -> u32
+        requires { k < 8 }
+        ensures { result ≡ shared_from k 0 weights self.now.words.now }
+    {
+        let mut sum = 0u32;
+        for (m, plane) in self.words.iter().enumerate() {
+            sum += weighted(ones_shared(weights, *plane), k, m);
+        }
+        sum
+    }
 }
 
 // Plane k of codes of at most 8 bits.
@@ -53,7 +72,7 @@ fn plane_of(codes: &[i16], k: usize) -> u16
 {
     let mut word = 0u32;
     for (place, code) in codes.iter().enumerate() {
-        word += bit_in_plane(unsigned(*code), k, place);
+        word += bit_in_plane(code.unsigned_abs(), k, place);
     }
     word as u16
 }
@@ -83,27 +102,6 @@ fn bit(number: u16, k: usize) -> u32
     ensures small { result < 2 }
 {
     (number >> k) as u32 % 2
-}
-
-// A code that is at least 0, as a number without sign.
-fn unsigned(code: i16) -> u16
-    requires { pos 0 ≤ℤ code }
-    ensures { result ≡ unsigned_abs code }
-{
-    code as u16
-}
-
-// What plane k of the weights adds to the sum over planes.
-fn shared_by(weights: u16, k: usize, activations: &[u16]) -> u32
-    requires plane { k < 8 }
-    requires activations { length activations.now ≤ 8 }
-    ensures { result ≡ shared_from k 0 weights activations.now }
-{
-    let mut sum = 0u32;
-    for (m, plane) in activations.iter().enumerate() {
-        sum += weighted(ones_shared(weights, *plane), k, m);
-    }
-    sum
 }
 
 // A count of ones that planes k and m share, times 2^(k + m).

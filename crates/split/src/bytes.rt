@@ -11,7 +11,7 @@ pub(crate) fn word_of(codes: &[i16]) -> u16
     requires { AllByRecursion InByte codes.now }
     ensures { result ≡ word_of codes.now }
 {
-    packed_byte(codes, 0) as u16 + 256 * (packed_byte(codes, 1) as u16)
+    u16::from_le_bytes([packed_byte(codes, 0), packed_byte(codes, 1)])
 }
 
 // The byte of the code at a place of a group. Past its end stands code 0.
@@ -19,11 +19,14 @@ fn packed_byte(codes: &[i16], place: usize) -> u8
     requires { AllByRecursion InByte codes.now }
     ensures { result ≡ code_byte (slice_index_or codes.now place (pos 0)) }
 {
-    if place < codes.len() {
-        byte_of(codes[place])
-    } else {
-        0
-    }
+    byte_of(code_or_fill(codes, place))
+}
+
+// The code at a place of a group, or code 0 past its end.
+fn code_or_fill(codes: &[i16], place: usize) -> i16
+    ensures { result ≡ slice_index_or codes.now place (pos 0) }
+{
+    codes.get(place).copied().unwrap_or(0)
 }
 
 // Whether a word is a packing: both codes lie within their ends.
@@ -46,18 +49,14 @@ fn byte_at(word: u16, place: usize) -> u8
     requires { place < 2 }
     ensures { result ≡ byte_at place word }
 {
-    ((word >> (8 * place)) % 256) as u8
+    word.to_le_bytes()[place]
 }
 
 // The code of a byte.
 fn code_of(byte: u8) -> i16
     ensures { result ≡ byte_code byte }
 {
-    if byte < 128 {
-        byte as i16
-    } else {
-        byte as i16 - 256
-    }
+    byte.cast_signed() as i16
 }
 
 // The byte of a code.
@@ -65,9 +64,5 @@ fn byte_of(code: i16) -> u8
     requires { InByte code }
     ensures { result ≡ code_byte code }
 {
-    if code >= 0 {
-        code as u8
-    } else {
-        (code + 256) as u8
-    }
+    (code as i8).cast_unsigned()
 }

@@ -2,6 +2,5 @@
 #![tactic(auto)]
 
 mod bytes;
-mod groups;
 pub mod split;
 mod split_row;

@@ -1,19 +1,21 @@
 // The kernel of signed split sums.
-ghost use Rattle.std.specs.Prelude.{◌≡◌, ℕ, ◌*◌, ◌^◌, ◌<◌, get_or, OnOk, slice_index_or};
+ghost use Rattle.std.specs.Prelude.{◌≡◌, ℕ, ◌&&◌, ◌*◌, ◌^◌, ◌<◌, get_or, OnOk, slice_index_or};
 ghost use Rattle.kernels.specs.Answers.{step_answer, step_gain};
 ghost use Rattle.kernels.specs.Allowed.{StepAllowed};
-ghost use Rattle.split.specs.Words.{packed_split, unpacked_split};
+ghost use Rattle.codes.specs.declared.side.Side.TheVariants.{Weights, Activations};
+ghost use Rattle.codes.specs.Shapes.{ends_on};
+ghost use Rattle.split.specs.Words.{packed_split, unpacked_split, is_packing};
 ghost use Rattle.split.specs.Rows.{ShapeFits, RowHolds, most_of};
 ghost use Rattle.split.specs.Tables.{empty_row, row_total, split_means};
 ghost use Rattle.split.specs.Packings;
 
-use crate::groups::{are_packings, pack_group, read_code};
+use crate::bytes::{code_at, is_word, word_of};
 use crate::split_row::{EMPTY, SplitRow};
 use codes::facts::Facts;
 use codes::side::Side;
 use kernels::kernel::Kernel;
 use kernels::planned::Planned;
-use kernels::questions::{ask_step, lengths_fit, may_step};
+use kernels::questions::{ask_code, ask_group, ask_step, lengths_fit, may_step};
 use kernels::refusal::{CodeRefusal, PackRefusal, RowRefusal, StepRefusal};
 use kernels::table::record_at;
 use plans::checked_plan::CheckedPlan;
@@ -45,19 +47,22 @@ impl Kernel for Split {
     }
 
     fn steps(&self, row: usize) -> Result<u32, RowRefusal> {
-        if row < 64 {
-            Ok(self.rows[row].steps)
-        } else {
-            Err(RowRefusal::Row)
-        }
+        self.rows
+            .get(row)
+            .map(|record| record.steps)
+            .ok_or(RowRefusal::Row)
     }
 
     fn pack_group(&self, side: Side, codes: &[i16], words: &mut [u16]) -> Result<(), PackRefusal> {
-        pack_group(&self.facts.shape, side, codes, words)
+        ask_group(&self.facts.shape, side, codes, words.len())?;
+        words[0] = word_of(codes);
+        Ok(())
     }
 
     fn read_code(&self, side: Side, words: &[u16], place: usize) -> Result<i16, CodeRefusal> {
-        read_code(&self.facts.shape, side, words, place)
+        let packing = self.is_packing(side, words);
+        ask_code(&self.facts.shape, side, words.len(), packing, place)?;
+        Ok(code_at(words[0], place))
     }
 
     fn step(
@@ -103,9 +108,23 @@ impl Split {
         ask_step(
             row < 64,
             lengths_fit(&self.facts.shape, weights.len(), activations.len()),
-            are_packings(&self.facts.shape, weights, activations),
+            self.are_packings(weights, activations),
             may_step(&self.facts, self.record(row).steps),
         )
+    }
+
+    // Whether both sides are packings.
+    fn are_packings(&self, weights: &[u16], activations: &[u16]) -> bool
+        ensures { result ≡ (is_packing (ends_on self.now.facts.shape Weights) weights.now && is_packing (ends_on self.now.facts.shape Activations) activations.now) }
+    {
+        self.is_packing(Side::Weights, weights) && self.is_packing(Side::Activations, activations)
+    }
+
+    // Whether these are one word, and a packing of that side.
+    fn is_packing(&self, side: Side, words: &[u16]) -> bool
+        ensures { result ≡ is_packing (ends_on self.now.facts.shape side) words.now }
+    {
+        words.len() == 1 && is_word(self.facts.shape.ends(side), words[0])
     }
 
     // The total of a row.

@@ -1,18 +1,10 @@
 use Rattle.std.proofs.Common.{◌≡◌, ℕ, ◌*◌, ◌^◌, ◌<◌, ◌≤◌, map, length, get_or, pos, nat_abs, sym, ap, ◌∙◌, arith, w16, SFits, rules}
 use lib.ListN.{length-map, get_or-map}
-use Rattle.std.proofs.ByRecursion.{All-get_or}
 use Rattle.std.proofs.lemmas.Int.{to_z-of_z}
-use Rattle.codes.specs.Codes.{Within}
-use Rattle.plans.specs.Kinds.{bit_ends}
 use Rattle.planes.specs.Planes.{bit_at, plane}
 use Rattle.planes.specs.Transposed.{plane_fits}
 use Rattle.planes.proofs.Loops.{BitTurn, bit_turn, bits_all}
 use Rattle.planes.proofs.words.plane_of.Goals as goal
-
-pub unsigned-requires : goal.unsigned-requires
-unsigned-requires c =
-    let fe : SFits w16 (get_or c.args.codes.now c.loop-place.place (pos 0)) = search rules in
-    simp to_z-of_z (All-get_or (Within (bit_ends 8)) c.args.codes.now c.loop-place.place (pos 0) c.loop-place-test.true c.requires.within).0
 
 turn : (c : goal.After-bit_in_plane-word) → BitTurn c.args.k c.loop-place.place (map nat_abs c.args.codes.now) c.loop-place.word c.bit_in_plane-word.result
 turn c =
@@ -21,7 +13,7 @@ turn c =
     let long = length-map c.args.codes.now nat_abs in
     let few : length (map nat_abs c.args.codes.now) ≤ 16 = omega (arith, c.requires.count) in
     let there : c.loop-place.place < length (map nat_abs c.args.codes.now) = omega arith in
-    let code : c.unsigned.result ≡ nat_abs (get_or c.args.codes.now c.loop-place.place (pos 0)) = simp to_z-of_z at c.unsigned.ensures in
+    let code : c.unsigned_abs.result ≡ nat_abs (get_or c.args.codes.now c.loop-place.place (pos 0)) = simp to_z-of_z at c.unsigned_abs.ensures.value in
     let is = c.bit_in_plane-word.ensures ∙ ap (λ (n : ℕ). bit_at c.args.k n * 2 ^ c.loop-place.place) (code ∙ sym (get_or-map nat_abs c.args.codes.now c.loop-place.place (pos 0))) in
     bit_turn c.args.k c.loop-place.place ns c.loop-place.word c.bit_in_plane-word.result few there is c.loop-place.invariant
 

@@ -1,14 +1,15 @@
-use Rattle.std.proofs.Common.{get_or, pos, sym, ap, w16, SFits, rules}
-use Rattle.std.proofs.lemmas.Int.{to_z-of_z}
-use Rattle.std.proofs.ByRecursion.{All-get_or}
-use Rattle.std.proofs.lemmas.List.{get_or_past}
-use Rattle.split.specs.Bytes.{InByte, code_byte}
+use Rattle.std.proofs.Common.{ℕ, zero, suc, List, [], ◌∷◌, get_or, ℤ, pos, arith, w16, SFits}
+use Rattle.std.specs.List.{AllByRecursion}
+use Rattle.std.proofs.lemmas.Int.{ints, to_z-of_z}
+use Rattle.split.specs.Bytes.{InByte}
 use Rattle.split.proofs.bytes.packed_byte.Goals as goal
+
+bytes_at : (codes : List ℤ) (place : ℕ) → AllByRecursion InByte codes → InByte (get_or codes place (pos 0))
+bytes_at [] place h = (omega (arith, ints), omega (arith, ints))
+bytes_at (code ∷ codes) zero (h, hs) = h
+bytes_at (code ∷ codes) (suc place) (h, hs) = bytes_at codes place hs
 
 pub byte_of-requires : goal.byte_of-requires
 byte_of-requires c =
-    let fits : SFits w16 (get_or c.args.codes.now c.args.place (pos 0)) = search rules in
-    simp to_z-of_z (All-get_or InByte c.args.codes.now c.args.place (pos 0) c.if-place-codes.true c.requires)
-
-pub returns-else-place-codes : goal.returns-else-place-codes
-returns-else-place-codes c = sym (ap code_byte (get_or_past c.args.codes.now c.args.place (pos 0) c.if-place-codes.false))
+    let fits : SFits w16 c.code_or_fill.result = record { sfits = c.code_or_fill.type_inv } in
+    simp to_z-of_z (rw c.code_or_fill.ensures (bytes_at c.args.codes.now c.args.place c.requires))

@@ -12,14 +12,14 @@ returns-in_err-ask c =
 
 pub add-requires : goal.add-requires
 add-requires c =
-    let room = step_room c.args.self.now c.args.row c.plane_sum-sum.result c.args.weights.now c.args.activations.now c.in_ok-ask.ensures.yes c.plane_sum-sum.ensures in
+    let room = step_room c.args.self.now c.args.row c.sum_with-sum.result c.args.weights.now c.args.activations.now c.in_ok-ask.ensures.yes c.sum_with-sum.ensures in
     record { steps = room.few; lane = room.fits }
 
 pub invariant_of-self : goal.invariant_of-self
 invariant_of-self c =
     let k = c.args.self.now in
     let all : length c.args.self.now.rows ≡ 64 = search rules in
-    let s = table_steps k c.args.row c.plane_sum-sum.result c.args.weights.now c.args.activations.now c.in_ok-ask.ensures.yes c.plane_sum-sum.ensures
+    let s = table_steps k c.args.row c.sum_with-sum.result c.args.weights.now c.args.activations.now c.in_ok-ask.ensures.yes c.sum_with-sum.ensures
     c.add.new.self all c.add.ensures.steps c.add.ensures.lane in
     record { shape_rule = k.shape_rule; lane_rule = k.lane_rule; rows_rule = s.holds }
 
@@ -27,6 +27,6 @@ pub returns : goal.returns
 returns c =
     let asked = c.in_ok-ask.ensures in
     let all : length c.args.self.now.rows ≡ 64 = search rules in
-    let s = table_steps c.args.self.now c.args.row c.plane_sum-sum.result c.args.weights.now c.args.activations.now asked.yes c.plane_sum-sum.ensures
+    let s = table_steps c.args.self.now c.args.row c.sum_with-sum.result c.args.weights.now c.args.activations.now asked.yes c.sum_with-sum.ensures
     c.add.new.self all c.add.ensures.steps c.add.ensures.lane in
     record { answer = asked.answer; after = s.after }

@@ -7,7 +7,7 @@ use Rattle.planes.proofs.planes.PlanesPlanned.of_plan.Goals as goal
 pub invariant_of-result : goal.invariant_of-result
 invariant_of-result c =
     let f = c.facts.result in
-    let r = ready c.args.plan f c.facts.ensures in
+    let r = ready c.args.plan.numbers f c.args.plan.lane c.facts.ensures in
     record { shape_rule = r.shape; lane_rule = r.lane; rows_rule = table_fill empty_row (RowHolds (most_of f.shape)) 64 (omega arith) }
 
 pub returns : goal.returns

@@ -8,7 +8,7 @@ use Rattle.split.proofs.split.SplitPlanned.of_plan.Goals as goal
 pub invariant_of-result : goal.invariant_of-result
 invariant_of-result c =
     let f = c.facts.result in
-    let k = planned c.args.plan f c.facts.ensures in
+    let k = planned c.args.plan.numbers f c.args.plan.ranges c.args.plan.lane c.facts.ensures in
     record { shape_rule = k.shape; lane_rule = k.lane; rows_rule = table_fill empty_row (Holds f) 64 (cleared f empty_row refl refl refl) }
 
 pub returns : goal.returns

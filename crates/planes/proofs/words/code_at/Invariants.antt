@@ -1,6 +1,0 @@
-use Rattle.std.proofs.Common.{◌≡◌, ◌+◌, ◌*◌, ◌^◌, drop}
-use Rattle.planes.specs.Planes.{plane}
-use Rattle.planes.proofs.words.code_at.Given as goal
-
-abbrev pub invariant-loop-k : goal.invariant-loop-k
-invariant-loop-k l = l.code + 2 ^ l.k * plane l.place (drop l.k l.words) ≡ plane l.place l.words

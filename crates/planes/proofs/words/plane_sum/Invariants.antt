@@ -1,6 +1,0 @@
-use Rattle.std.proofs.Common.{◌≡◌, ◌+◌, drop}
-use Rattle.planes.specs.Sums.{plane_sum_from, plane_sum}
-use Rattle.planes.proofs.words.plane_sum.Given as goal
-
-abbrev pub invariant-loop-k : goal.invariant-loop-k
-invariant-loop-k l = l.sum + plane_sum_from l.k (drop l.k l.weights) l.activations ≡ plane_sum l.weights l.activations
