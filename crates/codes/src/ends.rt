@@ -4,7 +4,7 @@ ghost use Rattle.codes.specs.Codes.{holds};
 ghost use Rattle.codes.specs.Places.{first_outside, FirstPlace};
 
 // The lowest and the highest code of one side.
-#[derive(Clone, Copy)]
+#[derive(Clone, Copy, Debug, PartialEq, Eq)]
 pub struct Ends {
     pub low: i16,
     pub high: i16,

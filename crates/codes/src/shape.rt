@@ -6,7 +6,7 @@ use crate::ends::Ends;
 use crate::side::Side;
 
 // The ends of both sides, the codes of a group, and the words that a packed group takes on each side.
-#[derive(Clone, Copy)]
+#[derive(Clone, Copy, Debug, PartialEq, Eq)]
 pub struct Shape {
     pub weight_ends: Ends,
     pub activation_ends: Ends,

@@ -1,6 +1,6 @@
 // The two sides of a product.
 
-#[derive(Clone, Copy)]
+#[derive(Clone, Copy, Debug, PartialEq, Eq)]
 pub enum Side {
     Weights,
     Activations,

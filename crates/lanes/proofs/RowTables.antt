@@ -54,6 +54,12 @@ pub record LaneTable (bits : ℕ) (A : Type 0) : Type 0 where
   pub lane : lanes.facts.interval * most_of lanes.depth lanes.weight_size lanes.activation_size < 2 ^ lanes.width
   pub hold : (j : ℕ) → Holds value lanes (get_or rows j (empty_row none))
 
+abbrev pub lane_table : {bits : ℕ} {A : Type 0} (none : A) (value : A → ℕ) (none_is : value none ≡ 0) (l : Lanes) (width : ℕ) (rows : List (LaneRow A))
+    → l.width ≡ width → l.width * l.depth ≤ bits → l.facts.interval * most_of l.depth l.weight_size l.activation_size < 2 ^ l.width
+    → ((j : ℕ) → Holds value l (get_or rows j (empty_row none))) → LaneTable bits A
+lane_table none value none_is l width rows width_is fits lane hold =
+    record { none = none; value = value; none_is = none_is; lanes = l; width = width; rows = rows; width_is = width_is; fits = fits; lane = lane; hold = hold }
+
 module _ {bits : ℕ} {A : Type 0} (k : LaneTable bits A) (row : ℕ) (new : LaneRow A) (all : length k.rows ≡ 64) where
   kept : Kept bits k.lanes.facts k.lanes.width k.lanes.depth k.lanes.weight_size k.lanes.activation_size
   kept = record { shape = k.lanes.shape_rule; laid = laid k.lanes; fits = k.fits; lane = k.lane }

@@ -7,7 +7,7 @@ use crate::layout::Layout;
 use crate::questions::zeros_fit;
 use crate::refusal::PlanRefusal;
 use crate::request::Request;
-use crate::sum::sum_fits;
+use crate::sum::Corrected;
 
 // The longest interval that is ever taken.
 const MOST_INTERVAL: u32 = 65536;
@@ -48,6 +48,10 @@ pub(crate) fn answer(kind: Kind, request: &Request) -> Result<Request, PlanRefus
     if !zeros_fit(&shape, request.zeros) {
         return Err(PlanRefusal::ZeroPoints);
     }
+    let corrected = Corrected {
+        shape,
+        zeros: request.zeros,
+    };
     if !layout.products_fit() {
         return Err(PlanRefusal::Products);
     }
@@ -55,7 +59,7 @@ pub(crate) fn answer(kind: Kind, request: &Request) -> Result<Request, PlanRefus
     if most < request.interval.max(1) {
         return Err(PlanRefusal::Lane);
     }
-    if !sum_fits(&shape, request.zeros, request.longest) {
+    if !corrected.sum_fits(request.longest) {
         return Err(PlanRefusal::Sum);
     }
     let interval = interval_taken(request.interval, most);

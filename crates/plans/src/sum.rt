@@ -31,27 +31,35 @@ fn reach_of(ends: Ends, zero: i16) -> Reach
     }
 }
 
-// The most that one column adds to a sum, and the most that it takes off.
-fn extremes(shape: &Shape, zeros: ZeroPoints) -> (u32, u32)
-    requires shape { ShapeRules shape.now }
-    requires zeros { ZerosWithin shape.now zeros }
-    ensures rise { result.0 ≡ rise shape.now zeros }
-    ensures fall { result.1 ≡ fall shape.now zeros }
-{
-    let weight = reach_of(shape.weight_ends, zeros.weight);
-    let activation = reach_of(shape.activation_ends, zeros.activation);
-    let rise = (weight.below * activation.below).max(weight.above * activation.above);
-    let fall = (weight.below * activation.above).max(weight.above * activation.below);
-    (rise, fall)
+// Codes within their ends, and the zero points that are taken off them.
+#[derive(Clone, Copy)]
+pub(crate) struct Corrected {
+    pub(crate) shape: Shape,
+    pub(crate) zeros: ZeroPoints,
+    ghost shape_rules: { ShapeRules shape },
+    ghost zeros_rule: { ZerosWithin shape zeros },
 }
 
-pub(crate) fn sum_fits(shape: &Shape, zeros: ZeroPoints, longest: u32) -> bool
-    requires shape { ShapeRules shape.now }
-    requires zeros { ZerosWithin shape.now zeros }
-    ensures { MatchBool result (SumOverflows shape.now zeros longest → ⊥) (SumOverflows shape.now zeros longest) }
-{
-    let (rise, fall) = extremes(shape, zeros);
-    let most = longest as u64 * rise as u64;
-    let least = longest as u64 * fall as u64;
-    most < 0x8000_0000 && least <= 0x8000_0000
+impl Corrected {
+    // Whether the exact sum of any so many columns is a signed 32-bit number.
+    pub(crate) fn sum_fits(&self, longest: u32) -> bool
+        ensures { MatchBool result (SumOverflows self.now.shape self.now.zeros longest → ⊥) (SumOverflows self.now.shape self.now.zeros longest) }
+    {
+        let (rise, fall) = self.extremes();
+        let most = longest as u64 * rise as u64;
+        let least = longest as u64 * fall as u64;
+        most < 0x8000_0000 && least <= 0x8000_0000
+    }
+
+    // The most that one column adds to a sum, and the most that it takes off.
+    fn extremes(&self) -> (u32, u32)
+        ensures rise { result.0 ≡ rise self.now.shape self.now.zeros }
+        ensures fall { result.1 ≡ fall self.now.shape self.now.zeros }
+    {
+        let weight = reach_of(self.shape.weight_ends, self.zeros.weight);
+        let activation = reach_of(self.shape.activation_ends, self.zeros.activation);
+        let rise = (weight.below * activation.below).max(weight.above * activation.above);
+        let fall = (weight.below * activation.above).max(weight.above * activation.below);
+        (rise, fall)
+    }
 }
