@@ -1,34 +1,38 @@
--- Where the first place is not read, a place of the fill does not read 0, or all of the fill does.
-use Rattle.std.proofs.Common.{length, arith}
+-- Where the first place is not read, and where the places of the fill are asked.
+use Rattle.std.proofs.Common.{◌≡◌, ◌-◌, true, false, length, is_ok, sym, refl, ap, ◌∙◌, rules, tests}
+use Rattle.std.proofs.lemmas.Iterator.{cases_from_all, YieldsList-from_range}
 use Rattle.codes.specs.declared.facts.Facts.{Facts}
 use Rattle.codes.specs.declared.shape.Shape.{Shape}
-use Rattle.kernels.proofs.GroupReads.{packing_length, zeros_all, zeros_fail, none_read}
+use Rattle.kernels.specs.Reads.{reads_zero}
+use Rattle.kernels.proofs.ListSizes.{size_of}
+use Rattle.kernels.proofs.GroupReads.{packing_length, read_at, none_read, some_read, fill_asked}
 use Rattle.kernels.proofs.lists.packs_codes.Goals as goal
 
-pub returns-then-is_err : goal.returns-then-is_err
-returns-then-is_err g c = λ m.
+pub returns-then-is_ok : goal.returns-then-is_ok
+returns-then-is_ok g c =
     let k = c.args.kernel.now in
     let F : Facts = (g.K.Kernel.means k).facts in
+    let S : Shape = F.shape in
     let side = c.args.side in
     let words = c.args.words.now in
-    none_read c.read_code.result F.shape side (length words) (g.K.Kernel.unpacked F.shape side words) c.args.used c.read_code.ensures c.if-is_err.ensures.value F.shape_rules.2.0
-    (packing_length (g.K.Kernel.packed F.shape) (g.K.Kernel.unpacked F.shape) F.shape side (g.met.K.Kernel.packs k) (g.met.K.Kernel.unpacks k) words)
+    let used = c.args.used in
+    let size = c.facts-size.result.shape.group in
+    let u = g.K.Kernel.unpacked S in
+    let o = u side words in
+    let unpacks = g.met.K.Kernel.unpacks k in
+    let cases = cases_from_all _ _ _ (λ place. true ≡ reads_zero (read_at S side (length words) o place)) (λ place. false ≡ reads_zero (read_at S side (length words) o place)) c.all.ensures.ran
+    (YieldsList-from_range used size (size - used) (cc) refl) (λ x q h. search (rules, tests)) (λ x q h. search (rules, tests)) in
+    fill_asked c.all.result S side (length words) o used size (some_read S side (length words) o 0 (c.if-is_ok.ensures.value ∙ ap is_ok c.read_code.ensures))
+    (λ codes is. ((unpacks side words codes is).0.full, packing_length (g.K.Kernel.packed S) u S side (g.met.K.Kernel.packs k) unpacks words codes is))
+    (size_of c.facts-size.result F c.facts-size.ensures) cases
 
-pub returns-then-not-reads_zero : goal.returns-then-not-reads_zero
-returns-then-not-reads_zero g c = λ m.
+pub returns-else-is_ok : goal.returns-else-is_ok
+returns-else-is_ok g c =
     let k = c.args.kernel.now in
-    let S : Shape = (g.K.Kernel.means k).facts.shape in
+    let F : Facts = (g.K.Kernel.means k).facts in
+    let S : Shape = F.shape in
     let side = c.args.side in
     let words = c.args.words.now in
-    zeros_fail c.read_code-in-loop-place.result S side (length words) (g.K.Kernel.unpacked S side words) c.args.used c.loop-place.place c.read_code-in-loop-place.ensures c.if-not-reads_zero.ensures
-    (omega (arith, c.loop-place.auto.place)) (omega (arith, m, c.loop-place-test.true))
+    c.if-is_ok.false
+    ∙ none_read c.read_code.result S side (length words) (g.K.Kernel.unpacked S side words) c.args.used c.read_code.ensures (sym c.if-is_ok.ensures.negation) F.shape_rules.2.0
     (packing_length (g.K.Kernel.packed S) (g.K.Kernel.unpacked S) S side (g.met.K.Kernel.packs k) (g.met.K.Kernel.unpacks k) words)
-
-pub returns : goal.returns
-returns g c = λ m.
-    let k = c.args.kernel.now in
-    let S : Shape = (g.K.Kernel.means k).facts.shape in
-    let side = c.args.side in
-    let words = c.args.words.now in
-    zeros_all (g.K.Kernel.unpacked S side words) c.args.used c.loop-place.place
-    (λ codes h. omega (arith, m, c.loop-place-test.false, (g.met.K.Kernel.unpacks k side words codes h).0.full)) c.loop-place.invariant

@@ -21,10 +21,10 @@ loop-place-preserved g c = λ all u l.
     let here : place < length c.loop-place.codes = omega (arith, c.loop-place-test.true, c.loop-place.auto.codes) in
     elim c.match-read_code.branch [
       | in-Ok w ↦
-          let f : SFits w16 w.in-Ok.code = search rules in
+          let f : SFits w16 w.in-Ok.read = search rules in
           ap (take (place + 1)) w.codes-is
-          ∙ place_more c.loop-place.codes all place (to_z w16 (of_z w16 w.in-Ok.code)) here (omega (arith, full, before))
-          (to_z-of_z w16 w.in-Ok.code f ∙ code_read S side (length words) all place w.in-Ok.code (w.in-Ok.ensures ∙ ap (λ o. read_at S side (length words) o place) u))
+          ∙ place_more c.loop-place.codes all place (to_z w16 (of_z w16 w.in-Ok.read)) here (omega (arith, full, before))
+          (to_z-of_z w16 w.in-Ok.read f ∙ code_read S side (length words) all place w.in-Ok.read (w.in-Ok.ensures ∙ ap (λ o. read_at S side (length words) o place) u))
           (c.loop-place.invariant all u before)
       | in_default w ↦ absurd (w.in_default.not-Ok _ (c.read_code.ensures ∙ ap (λ o. read_at S side (length words) o place) u ∙ reads S side (length words) all place (omega (arith, here, before)) long))
     ]
