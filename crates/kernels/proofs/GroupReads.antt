@@ -1,5 +1,5 @@
 -- The loops that read the places of one group.
-use Rattle.std.proofs.Common.{◌≡◌, ℕ, zero, suc, ◌+◌, ◌-◌, ◌<◌, ◌≤◌, Bool, true, false, cond, ◌&&◌, eqb, ltb, List, [], ◌∷◌, ◌++◌, length, get_or, take, drop, set, ℤ, pos, is_some, is_ok, is_err, Some, None, Ok, Option, Result, sym, refl, ap, ◌∙◌, subst, inl, inr, MatchBool, arith}
+use Rattle.std.proofs.Common.{◌≡◌, ℕ, zero, suc, ◌+◌, ◌-◌, ◌<◌, ◌≤◌, Bool, true, false, cond, ◌&&◌, eqb, ltb, List, [], ◌∷◌, ◌++◌, length, get_or, take, drop, set, ℤ, pos, is_some, is_ok, is_err, Some, None, Ok, Err, Option, Result, sym, refl, ap, ◌∙◌, subst, inl, inr, MatchBool, arith}
 use Rattle.std.proofs.lemmas.List.{take_more, take_more_set}
 use Rattle.std.specs.List.{AllWithin, HoldsAt, range_with_len}
 use Rattle.std.proofs.lemmas.List.FromFn.{length-range_with_len, get_or-range_with_len}
@@ -12,7 +12,6 @@ use Rattle.kernels.specs.declared.refusal.CodeRefusal.TheVariants.{Place, Length
 use Rattle.kernels.specs.Groups.{Packing as PackingOf, Unpacking, Packs, Unpacks}
 use Rattle.kernels.specs.Answers.{ask, code_in}
 use Rattle.kernels.specs.Lists.{is_zero, all_zero, first_codes}
-use Rattle.kernels.specs.Reads.{reads_zero}
 use Rattle.kernels.proofs.Groupings.{zero_is}
 use Rattle.kernels.proofs.ListLoops.{asked}
 
@@ -33,6 +32,11 @@ pub read_in : (s : Shape) (side : Side) (words : ℕ) (o : Option (List ℤ)) (p
 read_in s side words o place code h = asked (eqb words (words_on s side)) Length (code_in o place) code (asked (ltb place s.group) Place _ code h)
 
 -- ---- the fill
+
+-- the place was read, as code 0
+abbrev pub reads_zero : Result ℤ CodeRefusal → Bool
+reads_zero (Ok code) = is_zero code
+reads_zero (Err e) = false
 
 -- words that unpack, and code 0 at each place from one to another
 abbrev pub Zeros : Option (List ℤ) → (from to : ℕ) → Type 0

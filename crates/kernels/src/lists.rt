@@ -81,7 +81,7 @@ fn write_groups<K: Kernel>(kernel: &K, side: Side, codes: &[i16], words: &mut [u
 {
     let shape = kernel.facts().shape;
     let width = shape.words(side);
-    // By place, since a proof knows no words that are written through `chunks_exact_mut`.
+    // By place: of what is written through `chunks_exact_mut`, a proof knows the length alone.
     for (group, part) in codes.chunks(shape.group).enumerate() {
         let start = group * width;
         let _ = kernel.pack_group(side, part, &mut words[start..start + width]);
@@ -131,7 +131,7 @@ impl<'a, K: Kernel> PackedList<'a, K> {
         let width = shape.words(self.side);
         for (group, words) in self.words.chunks_exact(width).enumerate() {
             let used = self.count - group * shape.group;
-            if !packs_codes(self.kernel, self.side, words, used) {
+            if !self.packs_codes(words, used) {
                 return Err(UnpackRefusal::Group { group });
             }
         }
@@ -145,31 +145,35 @@ impl<'a, K: Kernel> PackedList<'a, K> {
     {
         let shape = self.kernel.facts().shape;
         let width = shape.words(self.side);
-        // By place, since a proof knows no codes that are written through `chunks_mut`.
+        // By place: of what is written through `chunks_mut`, a proof knows the length alone.
         for (group, words) in self.words.chunks_exact(width).enumerate() {
             let start = group * shape.group;
             let end = codes.len().min(start + shape.group);
-            read_group(self.kernel, self.side, words, &mut codes[start..end]);
+            self.read_group(words, &mut codes[start..end]);
         }
     }
-}
 
-// Whether the words of a group pack so many codes and their fill.
-fn packs_codes<K: Kernel>(kernel: &K, side: Side, words: &[u16], used: usize) -> bool
-    ensures { result ≡ is_some (first_codes used (K.Kernel.unpacked (K.Kernel.means kernel.now).facts.shape side words.now)) }
-{
-    let size = kernel.facts().shape.group;
-    kernel.read_code(side, words, 0).is_ok()
-        && (used..size).all(|place| matches!(kernel.read_code(side, words, place), Ok(0)))
-}
+    // Whether the words of a group pack so many codes and their fill. The first place is read in any case, as a full group
+    // has no fill.
+    fn packs_codes(&self, words: &[u16], used: usize) -> bool
+        ensures { result ≡ is_some (first_codes used (K.Kernel.unpacked (K.Kernel.means self.now.kernel.now).facts.shape self.now.side words.now)) }
+    {
+        let size = self.kernel.facts().shape.group;
+        self.kernel.read_code(self.side, words, 0).is_ok()
+            && (used..size).all(|place| matches!(
+                self.kernel.read_code(self.side, words, place),
+                Ok(0)
+            ))
+    }
 
-// Reads the codes of a group from its first on.
-fn read_group<K: Kernel>(kernel: &K, side: Side, words: &[u16], codes: &mut [i16])
-    ensures { (all : List ℤ) → K.Kernel.unpacked (K.Kernel.means kernel.now).facts.shape side words.now ≡ Some all → length codes.old ≤ (K.Kernel.means kernel.now).facts.shape.group → codes.new ≡ take (length codes.old) all }
-{
-    for (place, code) in codes.iter_mut().enumerate() {
-        if let Ok(read) = kernel.read_code(side, words, place) {
-            *code = read;
+    // Reads the codes of a group from its first on.
+    fn read_group(&self, words: &[u16], codes: &mut [i16])
+        ensures { (all : List ℤ) → K.Kernel.unpacked (K.Kernel.means self.now.kernel.now).facts.shape self.now.side words.now ≡ Some all → length codes.old ≤ (K.Kernel.means self.now.kernel.now).facts.shape.group → codes.new ≡ take (length codes.old) all }
+    {
+        for (place, code) in codes.iter_mut().enumerate() {
+            if let Ok(read) = self.kernel.read_code(self.side, words, place) {
+                *code = read;
+            }
         }
     }
 }

@@ -51,12 +51,9 @@ impl UnpackRefusal {
 // A code of a packed group is not read.
 #[derive(Clone, Copy, Debug, PartialEq, Eq)]
 pub enum CodeRefusal {
-    // The place is past the group.
-    Place = 11,
-    // Not the words of one group.
-    Length = 22,
-    // The words are no packing.
-    Packing = 23,
+    Place = 11, // The place is past the group.
+    Length = 22, // Not the words of one group.
+    Packing = 23, // The words are no packing.
 }
 
 impl CodeRefusal {
@@ -70,8 +67,7 @@ impl CodeRefusal {
 // A row is not drained, or not asked for its steps.
 #[derive(Clone, Copy, Debug, PartialEq, Eq)]
 pub enum RowRefusal {
-    // There is no such row.
-    Row = 21,
+    Row = 21, // There is no such row.
 }
 
 impl RowRefusal {
@@ -85,14 +81,10 @@ impl RowRefusal {
 // A row takes no step.
 #[derive(Clone, Copy, Debug, PartialEq, Eq)]
 pub enum StepRefusal {
-    // There is no such row.
-    Row = 21,
-    // Not the words of one group, on one side or both.
-    Length = 22,
-    // The words are no packing, on one side or both.
-    Packing = 23,
-    // The row has made all the steps of its interval.
-    Interval = 24,
+    Row = 21, // There is no such row.
+    Length = 22, // Not the words of one group, on one side or both.
+    Packing = 23, // The words are no packing, on one side or both.
+    Interval = 24, // The row has made all the steps of its interval.
 }
 
 impl StepRefusal {

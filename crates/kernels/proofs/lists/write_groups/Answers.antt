@@ -57,13 +57,17 @@ loop-group-preserved g c =
     let t = codes_turn F side codes c.loop-group.group-iterator c.next.new.self (c.in-Some.group, c.in-Some.part) width (length c.loop-group.words)
     (c.loop-group.auto.words ∙ c.requires) w c.loop-group.invariant.2 c.in-Some.ensures.steps in
     let short : length c.in-Some.part.now ≡ min size (length codes - at * size) = ap length t.3.part_is ∙ length-take size (drop (at * size) codes) ∙ ap (min size) (length-drop (at * size) codes) in
-    let long : length (take (at * width + width - at * width) (drop (at * width) c.loop-group.words)) ≡ width = simp (length-take, length-drop) (omega (arith, t.1)) in
-    (search rules, search rules, t.3.on, λ a.
-    let within = subst (λ (xs : List ℤ). AllByRecursion (Within (ends_on F.shape side)) xs) (sym t.3.part_is) (All-take (Within (ends_on F.shape side)) _ _ (All-drop (Within (ends_on F.shape side)) (at * size) codes a)) in
-    let written : c.pack_group.new.words ≡ p (filled size c.in-Some.part.now) =
-    group_written F.shape side c.in-Some.part.now _ c.pack_group.result c.pack_group.new.words _ _ (omega (arith, short, t.2, F.shape_rules.2.0)) (omega (arith, short)) (long ∙ w) within c.pack_group.ensures.answer c.pack_group.ensures.after in
-    write_turn p size width (words_on F.shape side) codes c.loop-group.words c.pack_group.new.words _ at _ _ count _ w t.3.at t.3.next t.0 (omega (arith, t.1)) (c.pack_group.auto.words ∙ long)
-    (written ∙ ap (λ xs. p (filled size xs)) t.3.part_is) (c.loop-group.invariant.3 a))
+    let long : length (take (at * width + width - at * width) (drop (at * width) c.loop-group.words)) ≡ width = simp (length-take, length-drop) (omega (arith, t.1)) in (
+      search rules,
+      search rules,
+      t.3.on,
+      λ a.
+          let within = subst (λ (xs : List ℤ). AllByRecursion (Within (ends_on F.shape side)) xs) (sym t.3.part_is) (All-take (Within (ends_on F.shape side)) _ _ (All-drop (Within (ends_on F.shape side)) (at * size) codes a)) in
+          let written : c.pack_group.new.words ≡ p (filled size c.in-Some.part.now) =
+          group_written F.shape side c.in-Some.part.now _ c.pack_group.result c.pack_group.new.words _ _ (omega (arith, short, t.2, F.shape_rules.2.0)) (omega (arith, short)) (long ∙ w) within c.pack_group.ensures.answer c.pack_group.ensures.after in
+          write_turn p size width (words_on F.shape side) codes c.loop-group.words c.pack_group.new.words _ at _ _ count _ w t.3.at t.3.next t.0 (omega (arith, t.1)) (c.pack_group.auto.words ∙ long)
+          (written ∙ ap (λ xs. p (filled size xs)) t.3.part_is) (c.loop-group.invariant.3 a),
+    )
 
 pub returns : goal.returns
 returns g c = λ a.

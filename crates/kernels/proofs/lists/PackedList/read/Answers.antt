@@ -11,14 +11,19 @@ use Rattle.kernels.proofs.UnpackedLists.{ReadTo, read_none, read_turn, read_all}
 use Rattle.kernels.proofs.lists.PackedList.read.Goals as goal
 
 pub loop-group-init : goal.loop-group-init
-loop-group-init g c = (search rules, search rules, search rules, λ all h.
-    let list = c.args.self.now in
-    let F : Facts = (g.K.Kernel.means list.kernel.now).facts in
-    let u = g.K.Kernel.unpacked F.shape list.side in
-    let width = words_on F.shape list.side in
-    let count = groups F.shape.group list.count in
-    let start : enumerate_count c.into_iter-group-iterator.result ≡ 0 = search rules in
-    subst (λ (i : ℕ). ReadTo u F.shape.group width count list.count list.words.now i c.args.codes.now all) (sym start) (read_none u F.shape.group width count list.count list.words.now c.args.codes.now all h))
+loop-group-init g c = (
+  search rules,
+  search rules,
+  search rules,
+  λ all h.
+      let list = c.args.self.now in
+      let F : Facts = (g.K.Kernel.means list.kernel.now).facts in
+      let u = g.K.Kernel.unpacked F.shape list.side in
+      let width = words_on F.shape list.side in
+      let count = groups F.shape.group list.count in
+      let start : enumerate_count c.into_iter-group-iterator.result ≡ 0 = search rules in
+      subst (λ (i : ℕ). ReadTo u F.shape.group width count list.count list.words.now i c.args.codes.now all) (sym start) (read_none u F.shape.group width count list.count list.words.now c.args.codes.now all h),
+)
 
 pub overflow_mul-start : goal.overflow_mul-start
 overflow_mul-start g c =
@@ -79,12 +84,16 @@ loop-group-preserved g c =
     let t = words_turn F side n words c.loop-group.group-iterator c.next.new.self (at, c.in-Some.words) list.exact c.loop-group.invariant.2 c.in-Some.ensures.steps in
     let long : length c.loop-group.codes ≡ n = c.loop-group.auto.codes ∙ c.requires in
     let end : c.min-end.result ≡ min n (at * f.shape.group + f.shape.group) = omega (arith, c.min-end.ensures, long) in
-    let short : length (take (c.min-end.result - at * f.shape.group) (drop (at * f.shape.group) c.loop-group.codes)) ≡ min n (at * f.shape.group + f.shape.group) - at * f.shape.group = simp (length-take, length-drop) (omega (arith, end, long)) in
-    (search rules, search rules, t.2.on, λ all h.
-    read_turn u F.shape.group width (groups F.shape.group n) n words at _ _ f.shape.group _ c.loop-group.codes c.read_group.new.codes all m t.2.at t.2.next t.0 t.1 long (c.read_group.auto.codes ∙ short)
-    (λ group e. (g.met.K.Kernel.unpacks list.kernel.now side (take width (drop (at * width) words)) group e).0.full)
-    (λ group e. c.read_group.ensures group (ap u t.2.part_is ∙ e) (omega (arith, short, m)) ∙ ap (λ i. take i group) short)
-    (c.loop-group.invariant.3 all h))
+    let short : length (take (c.min-end.result - at * f.shape.group) (drop (at * f.shape.group) c.loop-group.codes)) ≡ min n (at * f.shape.group + f.shape.group) - at * f.shape.group = simp (length-take, length-drop) (omega (arith, end, long)) in (
+      search rules,
+      search rules,
+      t.2.on,
+      λ all h.
+          read_turn u F.shape.group width (groups F.shape.group n) n words at _ _ f.shape.group _ c.loop-group.codes c.read_group.new.codes all m t.2.at t.2.next t.0 t.1 long (c.read_group.auto.codes ∙ short)
+          (λ group e. (g.met.K.Kernel.unpacks list.kernel.now side (take width (drop (at * width) words)) group e).0.full)
+          (λ group e. c.read_group.ensures group (ap u t.2.part_is ∙ e) (omega (arith, short, m)) ∙ ap (λ i. take i group) short)
+          (c.loop-group.invariant.3 all h),
+    )
 
 pub returns : goal.returns
 returns g c = λ all h.

@@ -5,14 +5,14 @@ use Rattle.std.proofs.lemmas.Int.{to_z-of_z}
 use Rattle.codes.specs.declared.shape.Shape.{Shape}
 use Rattle.codes.specs.Shapes.{words_on}
 use Rattle.kernels.proofs.GroupReads.{packing_length, read_at, code_read, reads, place_more}
-use Rattle.kernels.proofs.lists.read_group.Goals as goal
-use Rattle.kernels.proofs.lists.read_group.Goals.{in-Ok, in_default}
+use Rattle.kernels.proofs.lists.PackedList.read_group.Goals as goal
+use Rattle.kernels.proofs.lists.PackedList.read_group.Goals.{in-Ok, in_default}
 
 pub loop-place-preserved : goal.loop-place-preserved
 loop-place-preserved g c = λ all u l.
-    let k = c.args.kernel.now in
+    let k = c.args.self.now.kernel.now in
     let S : Shape = (g.K.Kernel.means k).facts.shape in
-    let side = c.args.side in
+    let side = c.args.self.now.side in
     let words = c.args.words.now in
     let place : ℕ = c.loop-place.place in
     let full : length all ≡ S.group = (g.met.K.Kernel.unpacks k side words all u).0.full in

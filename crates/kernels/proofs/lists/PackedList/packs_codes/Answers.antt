@@ -3,17 +3,16 @@ use Rattle.std.proofs.Common.{◌≡◌, ◌-◌, true, false, length, is_ok, sy
 use Rattle.std.proofs.lemmas.Iterator.{cases_from_all, YieldsList-from_range}
 use Rattle.codes.specs.declared.facts.Facts.{Facts}
 use Rattle.codes.specs.declared.shape.Shape.{Shape}
-use Rattle.kernels.specs.Reads.{reads_zero}
 use Rattle.kernels.proofs.ListSizes.{size_of}
-use Rattle.kernels.proofs.GroupReads.{packing_length, read_at, none_read, some_read, fill_asked}
-use Rattle.kernels.proofs.lists.packs_codes.Goals as goal
+use Rattle.kernels.proofs.GroupReads.{packing_length, reads_zero, read_at, none_read, some_read, fill_asked}
+use Rattle.kernels.proofs.lists.PackedList.packs_codes.Goals as goal
 
 pub returns-then-is_ok : goal.returns-then-is_ok
 returns-then-is_ok g c =
-    let k = c.args.kernel.now in
+    let k = c.args.self.now.kernel.now in
     let F : Facts = (g.K.Kernel.means k).facts in
     let S : Shape = F.shape in
-    let side = c.args.side in
+    let side = c.args.self.now.side in
     let words = c.args.words.now in
     let used = c.args.used in
     let size = c.facts-size.result.shape.group in
@@ -28,10 +27,10 @@ returns-then-is_ok g c =
 
 pub returns-else-is_ok : goal.returns-else-is_ok
 returns-else-is_ok g c =
-    let k = c.args.kernel.now in
+    let k = c.args.self.now.kernel.now in
     let F : Facts = (g.K.Kernel.means k).facts in
     let S : Shape = F.shape in
-    let side = c.args.side in
+    let side = c.args.self.now.side in
     let words = c.args.words.now in
     c.if-is_ok.false
     ∙ none_read c.read_code.result S side (length words) (g.K.Kernel.unpacked S side words) c.args.used c.read_code.ensures (sym c.if-is_ok.ensures.negation) F.shape_rules.2.0
