@@ -1,7 +1,9 @@
 -- The loops that read the places of one group.
-use Rattle.std.proofs.Common.{◌≡◌, ℕ, zero, suc, ◌+◌, ◌<◌, ◌≤◌, true, false, cond, ◌&&◌, eqb, ltb, List, [], ◌∷◌, ◌++◌, length, get_or, take, drop, set, ℤ, pos, is_some, is_err, Some, None, Ok, Option, Result, sym, refl, ap, ◌∙◌, arith}
+use Rattle.std.proofs.Common.{◌≡◌, ℕ, zero, suc, ◌+◌, ◌-◌, ◌<◌, ◌≤◌, Bool, true, false, cond, ◌&&◌, eqb, ltb, List, [], ◌∷◌, ◌++◌, length, get_or, take, drop, set, ℤ, pos, is_some, is_ok, is_err, Some, None, Ok, Err, Option, Result, sym, refl, ap, ◌∙◌, subst, inl, inr, MatchBool, arith}
 use Rattle.std.proofs.lemmas.List.{take_more, take_more_set}
-use Rattle.std.proofs.lemmas.Bool.{cond-true, and_left, and_right, lt-ltb, eq-eqb, true≢false}
+use Rattle.std.specs.List.{AllWithin, HoldsAt, range_with_len}
+use Rattle.std.proofs.lemmas.List.FromFn.{length-range_with_len, get_or-range_with_len}
+use Rattle.std.proofs.lemmas.Bool.{cases_Bool, cond-true, cond-false, and_left, and_right, lt-ltb, eq-eqb, true≢false}
 use Rattle.codes.specs.declared.shape.Shape.{Shape}
 use Rattle.codes.specs.declared.side.Side.{Side}
 use Rattle.codes.specs.Shapes.{words_on}
@@ -10,7 +12,7 @@ use Rattle.kernels.specs.declared.refusal.CodeRefusal.TheVariants.{Place, Length
 use Rattle.kernels.specs.Groups.{Packing as PackingOf, Unpacking, Packs, Unpacks}
 use Rattle.kernels.specs.Answers.{ask, code_in}
 use Rattle.kernels.specs.Lists.{is_zero, all_zero, first_codes}
-use Rattle.kernels.specs.Reads.{reads_zero}
+use Rattle.kernels.proofs.Groupings.{zero_is}
 use Rattle.kernels.proofs.ListLoops.{asked}
 
 -- words that are a packing are as many as the group takes
@@ -30,6 +32,11 @@ pub read_in : (s : Shape) (side : Side) (words : ℕ) (o : Option (List ℤ)) (p
 read_in s side words o place code h = asked (eqb words (words_on s side)) Length (code_in o place) code (asked (ltb place s.group) Place _ code h)
 
 -- ---- the fill
+
+-- the place was read, as code 0
+abbrev pub reads_zero : Result ℤ CodeRefusal → Bool
+reads_zero (Ok code) = is_zero code
+reads_zero (Err e) = false
 
 -- words that unpack, and code 0 at each place from one to another
 abbrev pub Zeros : Option (List ℤ) → (from to : ℕ) → Type 0
@@ -70,6 +77,42 @@ pub none_read : (read : Result ℤ CodeRefusal) (s : Shape) (side : Side) (words
     → ((codes : List ℤ) → o ≡ Some codes → words ≡ words_on s side) → false ≡ is_some (first_codes used o)
 none_read read s side words None used h z l law = refl
 none_read read s side words (Some codes) used h z l law = absurd (true≢false (z ∙ ap is_err (h ∙ reads s side words codes 0 l (law codes refl))))
+
+-- words of which a place is read
+pub record IsGroup (o : Option (List ℤ)) : Type 0 where
+  pub codes : List ℤ
+  pub is : o ≡ Some codes
+
+pub some_read : (s : Shape) (side : Side) (words : ℕ) (o : Option (List ℤ)) (place : ℕ) → true ≡ is_ok (read_at s side words o place) → IsGroup o
+some_read s side words None place h =
+    absurd
+    (elim (cases_Bool (ltb place s.group)) [
+      | inr k ↦ true≢false (h ∙ ap is_ok (cond-false _ _ _ k))
+      | inl k ↦ elim (cases_Bool (eqb words (words_on s side))) [
+        | inr j ↦ true≢false (h ∙ ap is_ok (cond-true _ _ _ k ∙ cond-false _ _ _ j))
+        | inl j ↦ true≢false (h ∙ ap is_ok (cond-true _ _ _ k ∙ cond-true _ _ _ j))
+      ]
+    ])
+some_read s side words (Some codes) place h = record { codes = codes; is = refl }
+
+-- each place of the fill of a packing is asked whether it reads 0
+pub fill_asked : (r : Bool) (s : Shape) (side : Side) (words : ℕ) (o : Option (List ℤ)) (used size : ℕ) → IsGroup o → ((codes : List ℤ) → o ≡ Some codes → (length codes ≡ s.group) × (words ≡ words_on s side)) → size ≡ s.group
+    → MatchBool r (AllWithin (λ place. true ≡ reads_zero (read_at s side words o place)) (range_with_len used (size - used)) 0 (length (range_with_len used (size - used))))
+    ((k : ℕ) × (k < length (range_with_len used (size - used))) × HoldsAt (λ place. false ≡ reads_zero (read_at s side words o place)) (range_with_len used (size - used)) k)
+    → r ≡ is_some (first_codes used o)
+fill_asked true s side words o used size group law e h =
+    let codes : List ℤ = group.codes in
+    let l = law codes group.is in
+    let zero : (q : ℕ) → used ≤ q → q < s.group → get_or codes q (pos 0) ≡ pos 0 = λ q from to.
+    let at : get_or (range_with_len used (size - used)) (q - used) 0 ≡ q = get_or-range_with_len used (size - used) (q - used) 0 (omega arith) ∙ omega arith in
+    let asked : true ≡ reads_zero (read_at s side words o q) = subst (λ (i : ℕ). true ≡ reads_zero (read_at s side words o i)) at (h (q - used) 0 (omega arith) (omega (arith, length-range_with_len used (size - used)))) in
+    zero_is _ (sym (asked ∙ ap (λ x. reads_zero (read_at s side words x q)) group.is ∙ ap reads_zero (reads s side words codes q to l.1))) in
+    zeros_all o used s.group (λ cs is. omega (arith, (law cs is).0)) (subst (λ (x : Option (List ℤ)). Zeros x used s.group) (sym group.is) zero)
+fill_asked false s side words o used size group law e h =
+    let k : ℕ = h.0 in
+    let there : k < size - used = omega (arith, h.1, length-range_with_len used (size - used)) in
+    let asked : false ≡ reads_zero (read_at s side words o (used + k)) = subst (λ (i : ℕ). false ≡ reads_zero (read_at s side words o i)) (get_or-range_with_len used (size - used) k 0 there) (h.2 0) in
+    zeros_fail (read_at s side words o (used + k)) s side words o used (used + k) refl asked (omega arith) (omega (arith, there)) (λ codes is. (law codes is).1)
 
 -- ---- the codes
 

@@ -2,6 +2,7 @@ pub mod Naturals
 pub mod Groupings
 pub mod PackedLists
 pub mod ListSizes
+pub mod Chunking
 pub mod ListLoops
 pub mod UnpackedLists
 pub mod GroupReads

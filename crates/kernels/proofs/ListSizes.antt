@@ -56,6 +56,11 @@ pub few_words : (f : Facts) (side : Side) (words : ℕ) → words ≡ words_on f
 few_words f Weights words e = omega (arith, f.shape_rules.3.0)
 few_words f Activations words e = omega (arith, f.shape_rules.4.0)
 
+-- and at least 1
+pub some_words : (f : Facts) (side : Side) → 1 ≤ words_on f.shape side
+some_words f Weights = f.shape_rules.3.0.0
+some_words f Activations = f.shape_rules.4.0.0
+
 -- the sizes by the facts that were read are those of the kernel
 pub size_of : (f F : Facts) → f ≡ F → f.shape.group ≡ F.shape.group
 size_of f F e = ap (λ (x : Facts). x.shape.group) e

@@ -10,21 +10,8 @@ use Rattle.codes.specs.Codes.{Within}
 use Rattle.codes.specs.Shapes.{ends_on, words_on}
 use Rattle.kernels.specs.Groups.{Packing, Unpacking, Packs, Unpacks, filled}
 use Rattle.kernels.specs.Lists.{packed_groups, first_codes, joined, unpacked_groups, GroupPacks}
+use Rattle.kernels.proofs.Chunking.{front_parts}
 use Rattle.kernels.proofs.Groupings.{filled_group, filled_first, first_from, group_first, group_packs}
-
--- ---- a first group and the rest
-
--- codes that fill a group, or that are the last
-front_parts : (m n : ℕ) (codes rest : List ℤ) → length codes ≡ min m n → length rest ≡ n - m → (take m (codes ++ rest) ≡ codes) × (drop m (codes ++ rest) ≡ rest)
-front_parts m n codes rest e r =
-    elim (cases_lt n m) [
-      | inl l ↦
-          let none : rest ≡ [] = nil_from_length rest (omega arith) in (
-            ap (λ ys. take m (codes ++ ys)) none ∙ ap (take m) (append-nil codes) ∙ take_all m codes (omega arith),
-            drop_all m (codes ++ rest) (omega (arith, length-append codes rest)) ∙ sym none,
-          )
-      | inr l ↦ (take_at codes rest m (omega arith), drop_at codes rest m (omega arith))
-    ]
 
 -- ---- what joined groups come from
 

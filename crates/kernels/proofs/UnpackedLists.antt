@@ -13,7 +13,7 @@ use Rattle.kernels.specs.declared.refusal.UnpackRefusal.{UnpackRefusal}
 use Rattle.kernels.specs.declared.refusal.UnpackRefusal.TheVariants.{Count, Words, Group as BadGroup}
 use Rattle.kernels.specs.Groups.{Packing, Unpacking, Packs, Unpacks}
 use Rattle.kernels.specs.Answers.{ask}
-use Rattle.kernels.specs.Lists.{first_codes, joined, unpacked_groups, unpacked_list, bad_group, unpack_list_answer, words_for, packed_groups, codes_after, FirstBad, Repacks}
+use Rattle.kernels.specs.Lists.{first_codes, joined, unpacked_groups, unpacked_list, bad_group, sizes_answer, unpack_list_answer, words_for, packed_groups, codes_after, FirstBad, Repacks}
 use Rattle.kernels.proofs.Groupings.{first_from}
 use Rattle.kernels.proofs.PackedLists.{joined_ok, packs_again, bad_from}
 use Rattle.kernels.proofs.ListSizes.{groups_hold}
@@ -91,7 +91,7 @@ module _ (unpacked : List ℕ → Option (List ℤ)) (m w count n : ℕ) (words 
         | inr l ↦ take_all (min n (g * m + m) - g * m) group (omega arith) ∙ sym (take_all (n - g * m) group (omega arith))
       ]
 
-  pub read_more : (g k : ℕ) (codes ys all : List ℤ) → g < count → g * m < n → length codes ≡ n → length ys ≡ min n (g * m + m) - g * m
+  read_more : (g k : ℕ) (codes ys all : List ℤ) → g < count → g * m < n → length codes ≡ n → length ys ≡ min n (g * m + m) - g * m
       → ((group : List ℤ) → unpacked (take w (drop (g * w) words)) ≡ Some group → length group ≡ m)
       → ((group : List ℤ) → unpacked (take w (drop (g * w) words)) ≡ Some group → ys ≡ take (min n (g * m + m) - g * m) group)
       → ReadTo g codes all → ReadTo (g + 1) (put_mid (g * m) k codes ys) all
@@ -112,6 +112,18 @@ module _ (unpacked : List ℕ → Option (List ℤ)) (m w count n : ℕ) (words 
             ∙ ap (λ i. take i codes ++ r.rest) here
             ∙ r.whole;
       }
+
+  -- the same at a turn of the loop, where its numbers are known by other names
+  pub read_turn : (g before after size k : ℕ) (codes ys all : List ℤ) → size ≡ m → g ≡ before → after ≡ g + 1 → g < count → g * m < n → length codes ≡ n → length ys ≡ min n (g * size + size) - g * size
+      → ((group : List ℤ) → unpacked (take w (drop (g * w) words)) ≡ Some group → length group ≡ m)
+      → ((group : List ℤ) → unpacked (take w (drop (g * w) words)) ≡ Some group → ys ≡ take (min n (g * size + size) - g * size) group)
+      → ReadTo before codes all → ReadTo after (put_mid (g * size) k codes ys) all
+  read_turn g before after size k codes ys all same at next h starts long short full is r =
+      let P : ℕ → Type 0 = λ x. length ys ≡ min n (g * x + x) - g * x in
+      let Q : ℕ → Type 0 = λ x. (group : List ℤ) → unpacked (take w (drop (g * w) words)) ≡ Some group → ys ≡ take (min n (g * x + x) - g * x) group in
+      let more : ReadTo (g + 1) (put_mid (g * m) k codes ys) all =
+      read_more g k codes ys all h starts long (subst P same short) full (subst Q same is) (subst (λ (i : ℕ). ReadTo i codes all) (sym at) r) in
+      subst (λ (i : ℕ). ReadTo i (put_mid (g * size) k codes ys) all) (sym next) (subst (λ (x : ℕ). ReadTo (g + 1) (put_mid (g * x) k codes ys) all) (sym same) more)
 
   pub read_all : (g : ℕ) (codes all : List ℤ) → count ≤ g → n ≤ count * m → length codes ≡ n → ReadTo g codes all → codes ≡ all
   read_all g codes all e enough long r =
@@ -144,10 +156,6 @@ ask_refused false e f next next' on h = h
 ask_passed : {T E : Type 0} (test : Bool) (f : E) (x : T) (r next next' : Result T E) → (Ok x ≡ next → r ≡ next') → Ok x ≡ ask test f next → r ≡ ask test f next'
 ask_passed true f x r next next' on h = on h
 ask_passed false f x r next next' on h = absurd (let z : ◌≡◌ {A = ℕ} 0 1 = cc in omega arith)
-
--- the questions on the numbers alone
-abbrev pub sizes_answer : Shape → Side → (n : ℕ) → List ℕ → Result (Unit {0}) UnpackRefusal
-sizes_answer s side n words = ask (leb 1 n && leb n 65536) Count (ask (eqb (length words) (words_for s side n)) Words (Ok tt))
 
 module _ (unpacked : Unpacking) (s : Shape) (side : Side) (n : ℕ) (words : List ℕ) where
   pub sizes_refuse : (e : UnpackRefusal) → Err e ≡ sizes_answer s side n words → Err e ≡ unpack_list_answer unpacked s side n words
@@ -220,3 +228,9 @@ module _ (packed : Packing) (unpacked : Unpacking) (s : Shape) (side : Side) (pa
       let all = has_codes (unpacked_list unpacked s side n words) good in
       let after : codes ≡ codes_after (unpacked_list unpacked s side n words) before = read all.codes all.is ∙ sym (ap (λ r. codes_after r before) all.is) in
       record { answer = answer; after = after; again = repacks n words before codes (Ok tt) answer after }
+
+-- what is known of a list that was lent is known of what it was lent from
+pub as_lent : {K : Type 0} (P : K → Side → List ℕ → ℕ → Type 0) {k k' : K} {side side' : Side} {words words' : List ℕ} {n n' : ℕ}
+    → k ≡ k' → side ≡ side' → words ≡ words' → n ≡ n' → P k side words n → P k' side' words' n'
+as_lent {K} P {k} {k'} {side} {side'} {words} {words'} {n} {n'} a b c d h =
+    subst (λ (x : K). P x side' words' n') a (subst (λ (x : Side). P k x words' n') b (subst (λ (x : List ℕ). P k side x n') c (subst (λ (x : ℕ). P k side words x) d h)))

@@ -3,6 +3,5 @@ pub mod Groups
 pub mod Answers
 pub mod Meanings
 pub mod Lists
-pub mod Reads
 pub mod Allowed
 pub mod Tables

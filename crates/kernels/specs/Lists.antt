@@ -64,6 +64,10 @@ abbrev pub bad_group : Result (List ℤ) ℕ → Result (Unit {0}) UnpackRefusal
 bad_group (Ok codes) = Ok tt
 bad_group (Err group) = Err (BadGroup group)
 
+-- the questions on the numbers of codes and words
+abbrev pub sizes_answer : Shape → Side → (n : ℕ) → List ℕ → Result (Unit {0}) UnpackRefusal
+sizes_answer s side n words = ask (nat_le 1 n && nat_le n 65536) Count (ask (length words == words_for s side n) Words (Ok tt))
+
 unfoldable pub unpack_list_answer : Unpacking → Shape → Side → (n : ℕ) → List ℕ → Result (Unit {0}) UnpackRefusal
 unpack_list_answer unpacked s side n words =
     ask (nat_le 1 n && nat_le n 65536) Count (ask (length words == words_for s side n) Words (bad_group (unpacked_list unpacked s side n words)))

@@ -42,10 +42,7 @@ pub fn ask_codes(
     ensures answer { result ≡ pack_answer most needed shape.now side codes.now words }
     ensures yes { OnOk result (CodesAllowed most needed shape.now side codes.now words) }
 {
-    if codes.len() < 1 {
-        return Err(PackRefusal::Count);
-    }
-    if codes.len() > most {
+    if codes.is_empty() || codes.len() > most {
         return Err(PackRefusal::Count);
     }
     if words != needed {

@@ -3,7 +3,7 @@ ghost use Rattle.std.specs.Prelude.{◌≡◌};
 ghost use Rattle.kernels.specs.Refusals.{pack_number, unpack_number, code_number, row_number, step_number};
 
 // Codes are not packed.
-#[derive(Clone, Copy)]
+#[derive(Clone, Copy, Debug, PartialEq, Eq)]
 pub enum PackRefusal {
     // No codes, or more than may be packed at once.
     Count,
@@ -26,7 +26,7 @@ impl PackRefusal {
 }
 
 // Words are not unpacked.
-#[derive(Clone, Copy)]
+#[derive(Clone, Copy, Debug, PartialEq, Eq)]
 pub enum UnpackRefusal {
     // No codes, or more than may be unpacked at once.
     Count,
@@ -49,67 +49,48 @@ impl UnpackRefusal {
 }
 
 // A code of a packed group is not read.
-#[derive(Clone, Copy)]
+#[derive(Clone, Copy, Debug, PartialEq, Eq)]
 pub enum CodeRefusal {
-    // The place is past the group.
-    Place,
-    // Not the words of one group.
-    Length,
-    // The words are no packing.
-    Packing,
+    Place = 11, // The place is past the group.
+    Length = 22, // Not the words of one group.
+    Packing = 23, // The words are no packing.
 }
 
 impl CodeRefusal {
     pub fn number(self) -> u8
         ensures { result ≡ code_number self }
     {
-        match self {
-            CodeRefusal::Place => 11,
-            CodeRefusal::Length => 22,
-            CodeRefusal::Packing => 23,
-        }
+        self as u8
     }
 }
 
 // A row is not drained, or not asked for its steps.
-#[derive(Clone, Copy)]
+#[derive(Clone, Copy, Debug, PartialEq, Eq)]
 pub enum RowRefusal {
-    // There is no such row.
-    Row,
+    Row = 21, // There is no such row.
 }
 
 impl RowRefusal {
     pub fn number(self) -> u8
         ensures { result ≡ row_number self }
     {
-        match self {
-            RowRefusal::Row => 21,
-        }
+        self as u8
     }
 }
 
 // A row takes no step.
-#[derive(Clone, Copy)]
+#[derive(Clone, Copy, Debug, PartialEq, Eq)]
 pub enum StepRefusal {
-    // There is no such row.
-    Row,
-    // Not the words of one group, on one side or both.
-    Length,
-    // The words are no packing, on one side or both.
-    Packing,
-    // The row has made all the steps of its interval.
-    Interval,
+    Row = 21, // There is no such row.
+    Length = 22, // Not the words of one group, on one side or both.
+    Packing = 23, // The words are no packing, on one side or both.
+    Interval = 24, // The row has made all the steps of its interval.
 }
 
 impl StepRefusal {
     pub fn number(self) -> u8
         ensures { result ≡ step_number self }
     {
-        match self {
-            StepRefusal::Row => 21,
-            StepRefusal::Length => 22,
-            StepRefusal::Packing => 23,
-            StepRefusal::Interval => 24,
-        }
+        self as u8
     }
 }

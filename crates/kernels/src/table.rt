@@ -5,9 +5,5 @@ ghost use Rattle.std.specs.Prelude.{◌≡◌, slice_index_or};
 pub fn record_at<R: Copy>(records: &[R], row: usize, empty: R) -> R
     ensures { result ≡ slice_index_or records.now row empty }
 {
-    if row < records.len() {
-        records[row]
-    } else {
-        empty
-    }
+    records.get(row).copied().unwrap_or(empty)
 }

@@ -5,14 +5,14 @@ use Rattle.std.proofs.lemmas.Int.{to_z-of_z}
 use Rattle.codes.specs.declared.shape.Shape.{Shape}
 use Rattle.codes.specs.Shapes.{words_on}
 use Rattle.kernels.proofs.GroupReads.{packing_length, read_at, code_read, reads, place_more}
-use Rattle.kernels.proofs.lists.read_group.Goals as goal
-use Rattle.kernels.proofs.lists.read_group.Goals.{in-Ok, in_default}
+use Rattle.kernels.proofs.lists.PackedList.read_group.Goals as goal
+use Rattle.kernels.proofs.lists.PackedList.read_group.Goals.{in-Ok, in_default}
 
 pub loop-place-preserved : goal.loop-place-preserved
 loop-place-preserved g c = λ all u l.
-    let k = c.args.kernel.now in
+    let k = c.args.self.now.kernel.now in
     let S : Shape = (g.K.Kernel.means k).facts.shape in
-    let side = c.args.side in
+    let side = c.args.self.now.side in
     let words = c.args.words.now in
     let place : ℕ = c.loop-place.place in
     let full : length all ≡ S.group = (g.met.K.Kernel.unpacks k side words all u).0.full in
@@ -21,10 +21,10 @@ loop-place-preserved g c = λ all u l.
     let here : place < length c.loop-place.codes = omega (arith, c.loop-place-test.true, c.loop-place.auto.codes) in
     elim c.match-read_code.branch [
       | in-Ok w ↦
-          let f : SFits w16 w.in-Ok.code = search rules in
+          let f : SFits w16 w.in-Ok.read = search rules in
           ap (take (place + 1)) w.codes-is
-          ∙ place_more c.loop-place.codes all place (to_z w16 (of_z w16 w.in-Ok.code)) here (omega (arith, full, before))
-          (to_z-of_z w16 w.in-Ok.code f ∙ code_read S side (length words) all place w.in-Ok.code (w.in-Ok.ensures ∙ ap (λ o. read_at S side (length words) o place) u))
+          ∙ place_more c.loop-place.codes all place (to_z w16 (of_z w16 w.in-Ok.read)) here (omega (arith, full, before))
+          (to_z-of_z w16 w.in-Ok.read f ∙ code_read S side (length words) all place w.in-Ok.read (w.in-Ok.ensures ∙ ap (λ o. read_at S side (length words) o place) u))
           (c.loop-place.invariant all u before)
       | in_default w ↦ absurd (w.in_default.not-Ok _ (c.read_code.ensures ∙ ap (λ o. read_at S side (length words) o place) u ∙ reads S side (length words) all place (omega (arith, here, before)) long))
     ]

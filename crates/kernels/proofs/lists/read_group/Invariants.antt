@@ -1,8 +1,0 @@
--- The codes before the place are those of the group.
-use Rattle.std.proofs.Common.{◌≡◌, ◌≤◌, List, length, take, ℤ, Some}
-use Rattle.kernels.proofs.lists.read_group.Given as goal
-
-abbrev pub invariant-loop-place : goal.invariant-loop-place
-invariant-loop-place g l =
-    (all : List ℤ) → g.K.Kernel.unpacked (g.K.Kernel.means l.kernel).facts.shape l.side l.words ≡ Some all
-    → length l.codes ≤ (g.K.Kernel.means l.kernel).facts.shape.group → take l.place l.codes ≡ take l.place all
