@@ -1,9 +1,9 @@
 -- The loops that read the places of one group.
-use Rattle.std.proofs.Common.{◌≡◌, ℕ, zero, suc, ◌+◌, ◌-◌, ◌<◌, ◌≤◌, Bool, true, false, cond, ◌&&◌, eqb, ltb, List, [], ◌∷◌, ◌++◌, length, get_or, take, drop, set, ℤ, pos, is_some, is_ok, is_err, Some, None, Ok, Err, Option, Result, sym, refl, ap, ◌∙◌, subst, inl, inr, MatchBool, arith}
+use Rattle.std.proofs.Common.{◌≡◌, ℕ, zero, suc, ◌+◌, ◌-◌, ◌<◌, ◌≤◌, Bool, true, false, cond, ◌&&◌, eqb, ltb, List, [], ◌∷◌, ◌++◌, length, get_or, take, drop, set, ℤ, pos, is_some, is_ok, is_err, Some, None, Ok, Err, Option, Result, sym, refl, ap, ◌∙◌, subst, inl, inr, arith}
 use Rattle.std.proofs.lemmas.List.{take_more, take_more_set}
-use Rattle.std.specs.List.{AllWithin, HoldsAt, range_with_len}
+use Rattle.std.specs.List.{list_all, range_with_len}
 use Rattle.std.proofs.lemmas.List.FromFn.{length-range_with_len, get_or-range_with_len}
-use Rattle.std.proofs.lemmas.Bool.{cases_Bool, cond-true, cond-false, and_left, and_right, lt-ltb, eq-eqb, true≢false}
+use Rattle.std.proofs.lemmas.Bool.{cases_Bool, and_parts, cond-true, cond-false, and_left, and_right, lt-ltb, eq-eqb, true≢false}
 use Rattle.codes.specs.declared.shape.Shape.{Shape}
 use Rattle.codes.specs.declared.side.Side.{Side}
 use Rattle.codes.specs.Shapes.{words_on}
@@ -12,6 +12,7 @@ use Rattle.kernels.specs.declared.refusal.CodeRefusal.TheVariants.{Place, Length
 use Rattle.kernels.specs.Groups.{Packing as PackingOf, Unpacking, Packs, Unpacks}
 use Rattle.kernels.specs.Answers.{ask, code_in}
 use Rattle.kernels.specs.Lists.{is_zero, all_zero, first_codes}
+use Rattle.kernels.specs.Reads.{reads_zero}
 use Rattle.kernels.proofs.Groupings.{zero_is}
 use Rattle.kernels.proofs.ListLoops.{asked}
 
@@ -32,11 +33,6 @@ pub read_in : (s : Shape) (side : Side) (words : ℕ) (o : Option (List ℤ)) (p
 read_in s side words o place code h = asked (eqb words (words_on s side)) Length (code_in o place) code (asked (ltb place s.group) Place _ code h)
 
 -- ---- the fill
-
--- the place was read, as code 0
-abbrev pub reads_zero : Result ℤ CodeRefusal → Bool
-reads_zero (Ok code) = is_zero code
-reads_zero (Err e) = false
 
 -- words that unpack, and code 0 at each place from one to another
 abbrev pub Zeros : Option (List ℤ) → (from to : ℕ) → Type 0
@@ -78,6 +74,22 @@ pub none_read : (read : Result ℤ CodeRefusal) (s : Shape) (side : Side) (words
 none_read read s side words None used h z l law = refl
 none_read read s side words (Some codes) used h z l law = absurd (true≢false (z ∙ ap is_err (h ∙ reads s side words codes 0 l (law codes refl))))
 
+-- a test of all elements
+all_at : {X : Type 0} (test : X → Bool) (xs : List X) → list_all test xs ≡ true → (k : ℕ) (d : X) → k < length xs → test (get_or xs k d) ≡ true
+all_at test [] h k d l = absurd (omega arith)
+all_at test (x ∷ xs) h zero d l = (and_parts (test x) (list_all test xs) h).0
+all_at test (x ∷ xs) h (suc k) d l = all_at test xs (and_parts (test x) (list_all test xs) h).1 k d (omega arith)
+
+one_fails : {X : Type 0} (test : X → Bool) (xs : List X) → list_all test xs ≡ false → (k : ℕ) × (k < length xs) × ((d : X) → test (get_or xs k d) ≡ false)
+one_fails test [] h = absurd (true≢false h)
+one_fails test (x ∷ xs) h =
+    elim (cases_Bool (test x)) [
+      | inr fails ↦ (0, omega arith, λ d. fails)
+      | inl holds ↦
+          let later = one_fails test xs (sym (ap (λ b. b && list_all test xs) holds) ∙ h) in
+          (suc later.0, omega (arith, later.1), later.2)
+    ]
+
 -- words of which a place is read
 pub record IsGroup (o : Option (List ℤ)) : Type 0 where
   pub codes : List ℤ
@@ -96,23 +108,26 @@ some_read s side words None place h =
 some_read s side words (Some codes) place h = record { codes = codes; is = refl }
 
 -- each place of the fill of a packing is asked whether it reads 0
-pub fill_asked : (r : Bool) (s : Shape) (side : Side) (words : ℕ) (o : Option (List ℤ)) (used size : ℕ) → IsGroup o → ((codes : List ℤ) → o ≡ Some codes → (length codes ≡ s.group) × (words ≡ words_on s side)) → size ≡ s.group
-    → MatchBool r (AllWithin (λ place. true ≡ reads_zero (read_at s side words o place)) (range_with_len used (size - used)) 0 (length (range_with_len used (size - used))))
-    ((k : ℕ) × (k < length (range_with_len used (size - used))) × HoldsAt (λ place. false ≡ reads_zero (read_at s side words o place)) (range_with_len used (size - used)) k)
-    → r ≡ is_some (first_codes used o)
-fill_asked true s side words o used size group law e h =
+pub fill_asked : (s : Shape) (side : Side) (words : ℕ) (o : Option (List ℤ)) (used : ℕ) → IsGroup o → ((codes : List ℤ) → o ≡ Some codes → (length codes ≡ s.group) × (words ≡ words_on s side))
+    → list_all (λ place. reads_zero (read_at s side words o place)) (range_with_len used (s.group - used)) ≡ is_some (first_codes used o)
+fill_asked s side words o used group law =
     let codes : List ℤ = group.codes in
     let l = law codes group.is in
-    let zero : (q : ℕ) → used ≤ q → q < s.group → get_or codes q (pos 0) ≡ pos 0 = λ q from to.
-    let at : get_or (range_with_len used (size - used)) (q - used) 0 ≡ q = get_or-range_with_len used (size - used) (q - used) 0 (omega arith) ∙ omega arith in
-    let asked : true ≡ reads_zero (read_at s side words o q) = subst (λ (i : ℕ). true ≡ reads_zero (read_at s side words o i)) at (h (q - used) 0 (omega arith) (omega (arith, length-range_with_len used (size - used)))) in
-    zero_is _ (sym (asked ∙ ap (λ x. reads_zero (read_at s side words x q)) group.is ∙ ap reads_zero (reads s side words codes q to l.1))) in
-    zeros_all o used s.group (λ cs is. omega (arith, (law cs is).0)) (subst (λ (x : Option (List ℤ)). Zeros x used s.group) (sym group.is) zero)
-fill_asked false s side words o used size group law e h =
-    let k : ℕ = h.0 in
-    let there : k < size - used = omega (arith, h.1, length-range_with_len used (size - used)) in
-    let asked : false ≡ reads_zero (read_at s side words o (used + k)) = subst (λ (i : ℕ). false ≡ reads_zero (read_at s side words o i)) (get_or-range_with_len used (size - used) k 0 there) (h.2 0) in
-    zeros_fail (read_at s side words o (used + k)) s side words o used (used + k) refl asked (omega arith) (omega (arith, there)) (λ codes is. (law codes is).1)
+    let places : List ℕ = range_with_len used (s.group - used) in
+    let test : ℕ → Bool = λ place. reads_zero (read_at s side words o place) in
+    elim (cases_Bool (list_all test places)) [
+      | inl all ↦
+          let zero : (q : ℕ) → used ≤ q → q < s.group → get_or codes q (pos 0) ≡ pos 0 = λ q from to.
+          let at : get_or places (q - used) 0 ≡ q = get_or-range_with_len used (s.group - used) (q - used) 0 (omega arith) ∙ omega arith in
+          let asked : test q ≡ true = subst (λ (i : ℕ). test i ≡ true) at (all_at test places all (q - used) 0 (omega (arith, length-range_with_len used (s.group - used)))) in
+          zero_is _ (sym (ap reads_zero (ap (λ x. read_at s side words x q) group.is ∙ reads s side words codes q to l.1)) ∙ asked) in
+          all ∙ zeros_all o used s.group (λ cs is. omega (arith, (law cs is).0)) (subst (λ (x : Option (List ℤ)). Zeros x used s.group) (sym group.is) zero)
+      | inr some ↦
+          let k = one_fails test places some in
+          let there : k.0 < s.group - used = omega (arith, k.1, length-range_with_len used (s.group - used)) in
+          let asked : test (used + k.0) ≡ false = subst (λ (i : ℕ). test i ≡ false) (get_or-range_with_len used (s.group - used) k.0 0 there) (k.2 0) in
+          some ∙ zeros_fail (read_at s side words o (used + k.0)) s side words o used (used + k.0) refl (sym asked) (omega arith) (omega (arith, there)) (λ codes is. (law codes is).1)
+    ]
 
 -- ---- the codes
 

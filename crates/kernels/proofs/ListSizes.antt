@@ -34,6 +34,13 @@ groups_few size (suc n) l =
     let p : 1 * n ≤ size * n = mul-le-mul_right n l in
     div-le_of_le-mul size (omega (arith, p, one-mul n, mul-suc size n))
 
+-- the same of the facts of a kernel
+pub groups_read : (f : Facts) (n : ℕ) → n / f.shape.group + min 1 (n % f.shape.group) ≡ groups f.shape.group n
+groups_read f n = sym (groups_are f.shape.group n f.shape_rules.2.0)
+
+pub groups_read_few : (f : Facts) (n : ℕ) → n / f.shape.group + min 1 (n % f.shape.group) ≤ n
+groups_read_few f n = omega (arith, groups_read f n, groups_few f.shape.group n f.shape_rules.2.0)
+
 -- and their groups hold them
 pub groups_hold : (size n : ℕ) → 1 ≤ size → n ≤ groups size n * size
 groups_hold size n l = omega (arith, div-add-mod' (n + (size - 1)) size, mod_below (n + (size - 1)) size (omega arith))

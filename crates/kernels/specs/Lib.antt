@@ -3,5 +3,6 @@ pub mod Groups
 pub mod Answers
 pub mod Meanings
 pub mod Lists
+pub mod Reads
 pub mod Allowed
 pub mod Tables

@@ -1,9 +1,11 @@
 // Lists of codes, packed and unpacked group after group by any kernel.
-ghost use Rattle.std.specs.Prelude.{◌≡◌, ◌≤◌, leb, List, length, take, ℤ, is_some, is_ok, if◌then◌else◌, Some, None, Ok, Err, MatchResult};
-ghost use Rattle.std.specs.List.{AllByRecursion};
+ghost use Rattle.std.specs.Prelude.{◌≡◌, ◌-◌, ◌≤◌, leb, List, length, take, ℤ, is_some, is_ok, if◌then◌else◌, Some, None, Ok, Err, MatchResult};
+ghost use Rattle.std.specs.List.{AllByRecursion, list_all, range_with_len};
 ghost use Rattle.codes.specs.Codes.{Within, groups};
 ghost use Rattle.codes.specs.Shapes.{ends_on};
+ghost use Rattle.kernels.specs.Answers.{code_answer};
 ghost use Rattle.kernels.specs.Lists.{words_for, packed_list, pack_list_answer, UnpacksBack, first_codes, unpacked_list, bad_group, sizes_answer, unpack_list_answer, codes_after, Repacks};
+ghost use Rattle.kernels.specs.Reads.{reads_zero, none_bad};
 
 use crate::kernel::Kernel;
 use crate::questions::ask_codes;
@@ -59,6 +61,7 @@ pub fn words_needed(facts: &Facts, side: Side, count: usize) -> Option<usize>
 }
 
 // The groups that n codes take.
+#[tactic(auto, using(crate::proofs::ListSizes::groups_read, crate::proofs::ListSizes::groups_read_few))]
 pub fn groups_taken(facts: Facts, n: usize) -> usize
     ensures value { result ≡ groups facts.shape.group n }
     ensures few { result ≤ n }
@@ -127,15 +130,22 @@ impl<'a, K: Kernel> PackedList<'a, K> {
     fn check(&self) -> Result<(), UnpackRefusal>
         ensures { result ≡ bad_group (unpacked_list (K.Kernel.unpacked (K.Kernel.means self.now.kernel.now).facts.shape) (K.Kernel.means self.now.kernel.now).facts.shape self.now.side self.now.count self.now.words.now) }
     {
+        self.first_bad()
+            .map_or(Ok(()), |group| Err(UnpackRefusal::Group { group }))
+    }
+
+    // The first group that is not the packing of its codes.
+    fn first_bad(&self) -> Option<usize>
+        ensures { none_bad result ≡ bad_group (unpacked_list (K.Kernel.unpacked (K.Kernel.means self.now.kernel.now).facts.shape) (K.Kernel.means self.now.kernel.now).facts.shape self.now.side self.now.count self.now.words.now) }
+    {
         let shape = self.kernel.facts().shape;
         let width = shape.words(self.side);
         for (group, words) in self.words.chunks_exact(width).enumerate() {
-            let used = self.count - group * shape.group;
-            if !self.packs_codes(words, used) {
-                return Err(UnpackRefusal::Group { group });
+            if !self.packs_codes(words, self.count - group * shape.group) {
+                return Some(group);
             }
         }
-        Ok(())
+        None
     }
 
     // Reads the codes of each group.
@@ -158,12 +168,17 @@ impl<'a, K: Kernel> PackedList<'a, K> {
     fn packs_codes(&self, words: &[u16], used: usize) -> bool
         ensures { result ≡ is_some (first_codes used (K.Kernel.unpacked (K.Kernel.means self.now.kernel.now).facts.shape self.now.side words.now)) }
     {
-        let size = self.kernel.facts().shape.group;
-        self.kernel.read_code(self.side, words, 0).is_ok()
-            && (used..size).all(|place| matches!(
-                self.kernel.read_code(self.side, words, place),
-                Ok(0)
-            ))
+        self.kernel.read_code(self.side, words, 0).is_ok() && self.fill_reads_zero(words, used)
+    }
+
+    // Whether each place of a group from one on reads 0.
+    fn fill_reads_zero(&self, words: &[u16], used: usize) -> bool
+        ensures { result ≡ list_all (λ place. reads_zero (code_answer (K.Kernel.unpacked (K.Kernel.means self.now.kernel.now).facts.shape) (K.Kernel.means self.now.kernel.now).facts.shape self.now.side words.now place)) (range_with_len used ((K.Kernel.means self.now.kernel.now).facts.shape.group - used)) }
+    {
+        (used..self.kernel.facts().shape.group).all(|place| matches!(
+            self.kernel.read_code(self.side, words, place),
+            Ok(0)
+        ))
     }
 
     // Reads the codes of a group from its first on.

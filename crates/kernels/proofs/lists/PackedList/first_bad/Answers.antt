@@ -6,18 +6,18 @@ use Rattle.codes.specs.Shapes.{words_on}
 use Rattle.kernels.specs.Lists.{first_codes, bad_group, unpacked_list}
 use Rattle.kernels.proofs.Chunking.{words_turn, exact_end}
 use Rattle.kernels.proofs.UnpackedLists.{group_at, rest_from, good_more, good_all, bad_here}
-use Rattle.kernels.proofs.lists.PackedList.check.Goals as goal
+use Rattle.kernels.proofs.lists.PackedList.first_bad.Goals as goal
 
-pub overflow_mul-used : goal.overflow_mul-used
-overflow_mul-used g c =
+pub overflow_mul-group : goal.overflow_mul-group
+overflow_mul-group g c =
     let list = c.args.self.now in
     let F : Facts = (g.K.Kernel.means list.kernel.now).facts in
     let t = words_turn F list.side list.count list.words.now c.loop-group.group-iterator c.next.new.self (c.in-Some.group, c.in-Some.words) list.exact c.loop-group.invariant.2 c.in-Some.ensures.steps in
     let below : c.in-Some.group * c.facts.result.shape.group < list.count = subst (λ (f : Facts). c.in-Some.group * f.shape.group < list.count) (sym c.facts.ensures) t.1 in
     search (rules, below)
 
-pub overflow_sub-used : goal.overflow_sub-used
-overflow_sub-used g c =
+pub overflow_sub-self : goal.overflow_sub-self
+overflow_sub-self g c =
     let list = c.args.self.now in
     let F : Facts = (g.K.Kernel.means list.kernel.now).facts in
     let t = words_turn F list.side list.count list.words.now c.loop-group.group-iterator c.next.new.self (c.in-Some.group, c.in-Some.words) list.exact c.loop-group.invariant.2 c.in-Some.ensures.steps in

@@ -8,7 +8,7 @@ use Rattle.codes.specs.Shapes.{words_on}
 use Rattle.kernels.specs.Lists.{bad_group, unpacked_list}
 use Rattle.kernels.proofs.Chunking.{StandsAt}
 use Rattle.kernels.proofs.UnpackedLists.{rest_from}
-use Rattle.kernels.proofs.lists.PackedList.check.Given as goal
+use Rattle.kernels.proofs.lists.PackedList.first_bad.Given as goal
 
 abbrev pub invariant-loop-group : goal.invariant-loop-group
 invariant-loop-group g l =
