@@ -1,5 +1,5 @@
 -- Loops over the chunks of a list, numbered from 0: each turn has the part that its number says.
-use Rattle.std.proofs.Common.{◌≡◌, ℕ, ◌+◌, ◌-◌, ◌*◌, ◌<◌, ◌≤◌, min, List, [], ◌++◌, length, take, drop, ℤ, Some, None, Option, Bor, sym, ap, ◌∙◌, subst, inl, inr, add-mul, one-mul, arith}
+use Rattle.std.proofs.Common.{◌≡◌, ℕ, ◌+◌, ◌-◌, ◌*◌, ◌<◌, ◌≤◌, min, List, [], ◌++◌, length, take, drop, ℤ, Some, None, Bor, sym, ap, ◌∙◌, subst, inl, inr, add-mul, one-mul, arith}
 use Rattle.std.specs.Iterator.Adapters.{enumerate_source, enumerate_count, enumerate_steps}
 use Rattle.std.specs.Slice.Iter.{chunks_rest, chunks_size, chunks_steps, chunks_exact_rest, chunks_exact_size, chunks_exact_steps}
 use Rattle.std.proofs.lemmas.Nat.{mul-le}

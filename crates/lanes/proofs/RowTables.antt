@@ -1,9 +1,12 @@
 -- A step and a drain of the rows of a kernel of lanes.
-use Rattle.std.proofs.Common.{◌≡◌, ℕ, ◌+◌, ◌*◌, ◌%◌, ◌^◌, ◌<◌, ◌≤◌, List, length, get_or, replicate, ℤ, pos, sym, refl, ap, subst, ◌∙◌, arith}
+use Rattle.std.proofs.Common.{◌≡◌, ℕ, ◌+◌, ◌*◌, ◌%◌, ◌^◌, ◌<◌, ◌≤◌, List, length, get_or, set, replicate, cond, is_ok, Result, ℤ, pos, refl, ap, ◌∙◌, arith}
 use Rattle.std.proofs.lemmas.List.{get_or_default}
-use Rattle.kernels.specs.Answers.{step_gain}
+use Rattle.kernels.specs.declared.refusal.RowRefusal.{RowRefusal}
+use Rattle.kernels.specs.Answers.{row_answer, step_gain}
+use Rattle.kernels.specs.Meanings.{Drained}
+use Rattle.kernels.specs.Tables.{table_means}
 use Rattle.kernels.specs.Allowed.{StepAllowed}
-use Rattle.kernels.proofs.Tables.{table_fill, empty_means, TableStepped, table_steps, TableDrained, table_drains}
+use Rattle.kernels.proofs.Tables.{new_holds, new_means, TableStepped, table_steps, taken_holds, taken_drains}
 use Rattle.lanes.specs.declared.lanes.Lanes.{Lanes}
 use Rattle.lanes.specs.declared.row.LaneRow.{LaneRow}
 use Rattle.lanes.specs.Lanes.{read_lane}
@@ -32,14 +35,10 @@ module _ {A : Type 0} (value : A → ℕ) (l : Lanes) (r : LaneRow A) (none : va
 -- a table of rows that are all empty
 module _ {A : Type 0} (value : A → ℕ) (l : Lanes) (none : A) (none_is : value none ≡ 0) (r : LaneRow A) (empty : r ≡ empty_row none) where
   pub holds_new : (j : ℕ) → Holds value l (get_or (replicate 64 r) j (empty_row none))
-  holds_new =
-      subst (λ (e : LaneRow A). (j : ℕ) → Holds value l (get_or (replicate 64 e) j (empty_row none))) (sym empty)
-      (table_fill (empty_row none) (Holds value l) 64 (holds_none value l (empty_row none) none_is refl))
+  holds_new = new_holds (empty_row none) r empty (Holds value l) (holds_none value l (empty_row none) none_is refl)
 
   pub means_new : (j : ℕ) → (total_of value l (get_or (replicate 64 r) j (empty_row none)) ≡ pos 0) × ((get_or (replicate 64 r) j (empty_row none)).steps ≡ 0)
-  means_new =
-      subst (λ (e : LaneRow A). (j : ℕ) → (total_of value l (get_or (replicate 64 e) j (empty_row none)) ≡ pos 0) × ((get_or (replicate 64 e) j (empty_row none)).steps ≡ 0)) (sym empty)
-      (empty_means (empty_row none) (total_of value l) (λ q. q.steps) (total_none value l (empty_row none) none_is) refl 64)
+  means_new = new_means (empty_row none) r empty (total_of value l) (λ q. q.steps) (total_none value l (empty_row none) none_is) refl
 
 -- a kernel with accumulators of so many bits, whose make has a name for the width of its lanes
 pub record LaneTable (bits : ℕ) (A : Type 0) : Type 0 where
@@ -67,14 +66,11 @@ module _ {bits : ℕ} {A : Type 0} (k : LaneTable bits A) (row : ℕ) (new : Lan
   abbrev old : LaneRow A
   old = get_or k.rows row (empty_row k.none)
 
-  -- the table with the new row, after a step by lanes of a width, or after a drain
+  -- the table with the new row, after a step by lanes of a width
   abbrev StepsTo : (width : ℕ) → (weights activations : List ℕ) → Type 0
   StepsTo width weights activations =
       TableStepped (empty_row k.none) (total_of k.value k.lanes) (λ r. r.steps) (Holds k.value k.lanes) k.lanes.facts k.rows row
       (step_gain (unpacked_lanes width k.lanes.facts.shape) k.lanes.facts row old.steps weights activations) new
-
-  abbrev DrainsTo : Type 0
-  DrainsTo = TableDrained (empty_row k.none) (total_of k.value k.lanes) (λ r. r.steps) (Holds k.value k.lanes) k.lanes.facts k.rows row new
 
   -- the row before, whatever stands past the table
   pub lanes_step : (weights activations : List ℕ) (past : LaneRow A)
@@ -92,9 +88,18 @@ module _ {bits : ℕ} {A : Type 0} (k : LaneTable bits A) (row : ℕ) (new : Lan
       new.steps (k.value new.accumulator) weights activations asked (k.hold row) es ea in
       table_steps (empty_row k.none) _ (λ r. r.steps) _ l.facts k.rows row _ new all asked.row_lt k.hold n.holds n.total n.steps
 
-  pub lanes_drain : row < 64 → new ≡ empty_row k.none → DrainsTo
-  lanes_drain lt e =
-      let none = ap (λ (r : LaneRow A). k.value r.accumulator) e ∙ k.none_is in
-      let start = ap (λ (r : LaneRow A). r.steps) e in
-      table_drains (empty_row k.none) _ (λ r. r.steps) _ k.lanes.facts k.rows row new all lt k.hold
-      (holds_none k.value k.lanes new none start) (total_none k.value k.lanes new none) start
+-- a drain: the row is taken
+module _ {bits : ℕ} {A : Type 0} (k : LaneTable bits A) (row : ℕ) (r : Result (LaneRow A) RowRefusal) (rows : List (LaneRow A)) (all : length k.rows ≡ 64)
+    (answer : r ≡ row_answer row (get_or k.rows row (empty_row k.none))) (after : rows ≡ cond (is_ok r) (set k.rows row (empty_row k.none)) k.rows) where
+  pub record Taken : Type 0 where
+    pub holds : (j : ℕ) → Holds k.value k.lanes (get_or rows j (empty_row k.none))
+    pub drained : Drained row (table_means (empty_row k.none) (total_of k.value k.lanes) (λ r. r.steps) k.lanes.facts k.rows)
+        (table_means (empty_row k.none) (total_of k.value k.lanes) (λ r. r.steps) k.lanes.facts rows)
+
+  pub lanes_taken : Taken
+  lanes_taken =
+      let e = empty_row k.none in
+      record {
+        holds = taken_holds e k.rows row r rows answer after (Holds k.value k.lanes) (holds_none k.value k.lanes e k.none_is refl) k.hold;
+        drained = taken_drains e k.rows row r rows answer after (total_of k.value k.lanes) (λ q. q.steps) k.lanes.facts all (total_none k.value k.lanes e k.none_is) refl;
+      }

@@ -2,7 +2,6 @@
 ghost use Rattle.std.specs.Prelude.{◌≡◌, ℕ, ◌*◌, ◌^◌, ◌<◌, ◌≤◌, get_or, OnOk, slice_index_or};
 ghost use Rattle.kernels.specs.Answers.{step_answer, step_gain};
 ghost use Rattle.kernels.specs.Allowed.{StepAllowed};
-ghost use Rattle.lanes.specs.Lanes.{read_lane};
 ghost use Rattle.lanes.specs.Words.{packed_lanes, unpacked_lanes};
 ghost use Rattle.lanes.specs.Rows.{RowHolds, most_of};
 ghost use Rattle.lanes.specs.Tables.{empty_row, lanes_means};
@@ -18,7 +17,7 @@ use codes::side::Side;
 use kernels::kernel::Kernel;
 use kernels::planned::Planned;
 use kernels::refusal::{CodeRefusal, PackRefusal, RowRefusal, StepRefusal};
-use kernels::table::record_at;
+use kernels::table::{Row, record_at, take_row};
 use plans::plan::Plan;
 use std::marker::PhantomData;
 
@@ -81,13 +80,8 @@ impl<M: LaneMake> Kernel for LaneKernel<M> {
     }
 
     fn drain(&mut self, row: usize) -> Result<i64, RowRefusal> {
-        if row >= 64 {
-            return Err(RowRefusal::Row);
-        }
-        let total = self.total(row);
-        let drained = &mut self.rows[row];
-        drained.clear();
-        Ok(total as i64)
+        let drained = take_row(&mut self.rows, row)?;
+        Ok(self.lanes.read(drained.accumulator.value()) as i64)
     }
 }
 
@@ -111,13 +105,6 @@ impl<M: LaneMake> LaneKernel<M> {
     {
         self.lanes
             .ask_step(row, self.record(row).steps, weights, activations)
-    }
-
-    // The total that the read lane of a row holds.
-    fn total(&self, row: usize) -> u32
-        ensures { result ≡ read_lane self.now.lanes.width self.now.lanes.depth (M.Accumulator.value (get_or self.now.rows row (empty_row M.Accumulator.ZERO)).accumulator) }
-    {
-        self.lanes.read(self.record(row).accumulator.value())
     }
 
     // What a row keeps. Past the table stand empty rows.

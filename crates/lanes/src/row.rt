@@ -3,6 +3,7 @@ ghost use Rattle.std.specs.Prelude.{◌≡◌, ◌+◌, ◌*◌, ◌%◌, ◌^�
 ghost use Rattle.lanes.specs.Tables.{empty_row};
 
 use crate::accumulator::Accumulator;
+use kernels::table::Row;
 
 #[derive(Clone, Copy)]
 pub(crate) struct LaneRow<A> {
@@ -11,16 +12,6 @@ pub(crate) struct LaneRow<A> {
 }
 
 impl<A: Accumulator> LaneRow<A> {
-    // A row without steps.
-    pub(crate) fn empty() -> LaneRow<A>
-        ensures { result ≡ empty_row A.ZERO }
-    {
-        LaneRow {
-            steps: 0,
-            accumulator: A::ZERO,
-        }
-    }
-
     // Adds the product of two words, cut to the bits of the accumulator.
     pub(crate) fn add(&mut self, weights: u16, activations: u16)
         requires { self.old.steps < 65536 }
@@ -30,11 +21,19 @@ impl<A: Accumulator> LaneRow<A> {
         self.accumulator = self.accumulator.add_product(weights, activations);
         self.steps += 1;
     }
+}
 
-    // Sets the total and the steps to 0.
-    pub(crate) fn clear(&mut self)
-        ensures { self.new ≡ empty_row A.ZERO }
-    {
+impl<A: Accumulator> Row for LaneRow<A> {
+    ghost empty = { empty_row A.ZERO };
+
+    fn empty() -> LaneRow<A> {
+        LaneRow {
+            steps: 0,
+            accumulator: A::ZERO,
+        }
+    }
+
+    fn clear(&mut self) {
         self.steps = 0;
         self.accumulator = A::ZERO;
     }

@@ -1,20 +1,22 @@
 -- A step and a drain of a row.
-use Rattle.std.proofs.Common.{◌≡◌, ℕ, suc, ◌+◌, ◌-◌, ◌*◌, ◌^◌, ◌<◌, ◌≤◌, List, length, get_or, set, ℤ, pos, Ok, sym, ap, ◌∙◌, subst, mul-le-mul_right, arith}
+use Rattle.std.proofs.Common.{◌≡◌, ℕ, suc, ◌+◌, ◌-◌, ◌*◌, ◌^◌, ◌<◌, ◌≤◌, List, length, get_or, set, ℤ, pos, cond, is_ok, Ok, Result, sym, refl, ap, ◌∙◌, subst, mul-le-mul_right, arith}
 use lib.Lanes.{Each1}
 use Rattle.codes.specs.declared.shape.Shape.{Shape}
 use Rattle.codes.specs.declared.side.Side.TheVariants.{Weights, Activations}
 use Rattle.codes.specs.declared.facts.Facts.{Facts}
 use Rattle.codes.specs.Shapes.{words_on}
-use Rattle.kernels.specs.Answers.{step_gain}
+use Rattle.kernels.specs.declared.refusal.RowRefusal.{RowRefusal}
+use Rattle.kernels.specs.Answers.{row_answer, step_gain}
+use Rattle.kernels.specs.Meanings.{Drained}
 use Rattle.kernels.specs.Allowed.{StepAllowed}
 use Rattle.kernels.proofs.Gains.{gain_is}
 use Rattle.kernels.proofs.Naturals.{dot_n, dot_most}
-use Rattle.kernels.proofs.Tables.{table_set, TableStepped, table_gains}
+use Rattle.kernels.proofs.Tables.{TableStepped, table_gains, taken_holds, taken_drains}
 use Rattle.planes.specs.declared.planes.Planes.{Planes}
 use Rattle.planes.specs.declared.planes_row.PlanesRow.{PlanesRow}
 use Rattle.planes.specs.Planes.{planes_from, unpacked_planes}
 use Rattle.planes.specs.Sums.{plane_sum}
-use Rattle.planes.specs.Rows.{ShapeFits, most_of, empty_row, RowHolds}
+use Rattle.planes.specs.Rows.{ShapeFits, most_of, empty_row, RowHolds, planes_means}
 use Rattle.planes.specs.Transposed.{length_planes}
 use Rattle.planes.proofs.SharedOnes.{sum_planes, sum_dot}
 use Rattle.planes.specs.Packings.{found, codes_most}
@@ -79,7 +81,11 @@ module _ (k : Planes) (row sum : ℕ) (ws ys : List ℕ) (asked : StepAllowed (u
 
 -- ---- a drain
 
-pub drained_holds : (k : Planes) (row : ℕ) (new : PlanesRow) → new.lane ≡ 0 → (j : ℕ) → RowHolds (most_of k.facts.shape) (get_or (set k.rows row new) j empty_row)
-drained_holds k row new el =
-    let holds : RowHolds (most_of k.facts.shape) new = omega arith in
-    table_set empty_row (RowHolds (most_of k.facts.shape)) k.rows row new holds k.rows_rule
+-- the row is taken, and answered as it was
+module _ (k : Planes) (row : ℕ) (r : Result PlanesRow RowRefusal) (rows : List PlanesRow) (answer : r ≡ row_answer row (get_or k.rows row empty_row))
+    (after : rows ≡ cond (is_ok r) (set k.rows row empty_row) k.rows) where
+  pub taken_row_holds : (j : ℕ) → RowHolds (most_of k.facts.shape) (get_or rows j empty_row)
+  taken_row_holds = taken_holds empty_row k.rows row r rows answer after (RowHolds (most_of k.facts.shape)) (omega arith) k.rows_rule
+
+  pub taken_row_drains : length k.rows ≡ 64 → Drained row (planes_means k.facts k.rows) (planes_means k.facts rows)
+  taken_row_drains all = taken_drains empty_row k.rows row r rows answer after (λ q. pos q.lane) (λ q. q.steps) k.facts all refl refl

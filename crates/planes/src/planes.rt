@@ -14,7 +14,7 @@ use kernels::kernel::Kernel;
 use kernels::planned::Planned;
 use kernels::questions::{ask_code, ask_group, ask_step, lengths_fit, may_step};
 use kernels::refusal::{CodeRefusal, PackRefusal, RowRefusal, StepRefusal};
-use kernels::table::record_at;
+use kernels::table::{Row, record_at, take_row};
 use plans::checked_plan::CheckedPlan;
 use plans::plan::PlanesPlan;
 
@@ -77,13 +77,8 @@ impl Kernel for Planes {
     }
 
     fn drain(&mut self, row: usize) -> Result<i64, RowRefusal> {
-        if row >= 64 {
-            return Err(RowRefusal::Row);
-        }
-        let total = self.total(row);
-        let drained = &mut self.rows[row];
-        drained.clear();
-        Ok(total as i64)
+        let drained = take_row(&mut self.rows, row)?;
+        Ok(drained.lane as i64)
     }
 }
 
@@ -93,7 +88,7 @@ impl Planned for Planes {
     fn of_plan(plan: PlanesPlan) -> Planes {
         Planes {
             facts: plan.facts(),
-            rows: [PlanesRow { steps: 0, lane: 0 }; 64],
+            rows: [PlanesRow::empty(); 64],
         }
     }
 }
@@ -112,17 +107,10 @@ impl Planes {
         )
     }
 
-    // The total of a row.
-    fn total(&self, row: usize) -> u32
-        ensures { result ≡ (get_or self.now.rows row empty_row).lane }
-    {
-        self.record(row).lane
-    }
-
     // What a row keeps. Past the table stand empty rows.
     fn record(&self, row: usize) -> PlanesRow
         ensures { result ≡ slice_index_or self.now.rows row empty_row }
     {
-        record_at(&self.rows, row, PlanesRow { steps: 0, lane: 0 })
+        record_at(&self.rows, row, PlanesRow::empty())
     }
 }

@@ -1,5 +1,8 @@
 // What a row of bit planes keeps: its steps since the last drain, and a lane of 32 bits.
 ghost use Rattle.std.specs.Prelude.{◌≡◌, ◌+◌, ◌^◌, ◌<◌};
+ghost use Rattle.planes.specs.Rows.{empty_row};
+
+use kernels::table::Row;
 
 #[derive(Clone, Copy)]
 pub(crate) struct PlanesRow {
@@ -18,12 +21,16 @@ impl PlanesRow {
         self.lane += sum;
         self.steps += 1;
     }
+}
 
-    // Sets the total and the steps to 0.
-    pub(crate) fn clear(&mut self)
-        ensures steps { self.new.steps ≡ 0 }
-        ensures lane { self.new.lane ≡ 0 }
-    {
+impl Row for PlanesRow {
+    ghost empty = { empty_row };
+
+    fn empty() -> PlanesRow {
+        PlanesRow { steps: 0, lane: 0 }
+    }
+
+    fn clear(&mut self) {
         self.steps = 0;
         self.lane = 0;
     }

@@ -6,18 +6,18 @@ ghost use Rattle.codes.specs.declared.side.Side.TheVariants.{Weights, Activation
 ghost use Rattle.codes.specs.Shapes.{ends_on};
 ghost use Rattle.split.specs.Words.{packed_split, unpacked_split, is_packing};
 ghost use Rattle.split.specs.Rows.{ShapeFits, RowHolds, most_of};
-ghost use Rattle.split.specs.Tables.{empty_row, row_total, split_means};
+ghost use Rattle.split.specs.Tables.{empty_row, split_means};
 ghost use Rattle.split.specs.Packings;
 
 use crate::bytes::{code_at, is_word, word_of};
-use crate::split_row::{EMPTY, SplitRow};
+use crate::split_row::SplitRow;
 use codes::facts::Facts;
 use codes::side::Side;
 use kernels::kernel::Kernel;
 use kernels::planned::Planned;
 use kernels::questions::{ask_code, ask_group, ask_step, lengths_fit, may_step};
 use kernels::refusal::{CodeRefusal, PackRefusal, RowRefusal, StepRefusal};
-use kernels::table::record_at;
+use kernels::table::{Row, record_at, take_row};
 use plans::checked_plan::CheckedPlan;
 use plans::plan::SplitPlan;
 
@@ -78,13 +78,8 @@ impl Kernel for Split {
     }
 
     fn drain(&mut self, row: usize) -> Result<i64, RowRefusal> {
-        if row >= 64 {
-            return Err(RowRefusal::Row);
-        }
-        let total = self.total(row);
-        let drained = &mut self.rows[row];
-        drained.clear();
-        Ok(total)
+        let drained = take_row(&mut self.rows, row)?;
+        Ok(drained.total())
     }
 }
 
@@ -94,7 +89,7 @@ impl Planned for Split {
     fn of_plan(plan: SplitPlan) -> Split {
         Split {
             facts: plan.facts(),
-            rows: [EMPTY; 64],
+            rows: [SplitRow::empty(); 64],
         }
     }
 }
@@ -127,17 +122,10 @@ impl Split {
         words.len() == 1 && is_word(self.facts.shape.ends(side), words[0])
     }
 
-    // The total of a row.
-    fn total(&self, row: usize) -> i64
-        ensures { result ≡ row_total (slice_index_or self.now.rows row empty_row) }
-    {
-        self.record(row).total()
-    }
-
     // What a row keeps. Past the table stand empty rows.
     fn record(&self, row: usize) -> SplitRow
         ensures { result ≡ slice_index_or self.now.rows row empty_row }
     {
-        record_at(&self.rows, row, EMPTY)
+        record_at(&self.rows, row, SplitRow::empty())
     }
 }

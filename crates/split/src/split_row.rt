@@ -1,8 +1,10 @@
 // What a row keeps: its steps since the last drain, and a lane for each place of a group.
-ghost use Rattle.std.specs.Prelude.{◌≡◌, ◌+◌, ◌<◌, pos, ◌+ℤ◌};
+ghost use Rattle.std.specs.Prelude.{◌≡◌, ◌+◌, ◌<◌, ◌+ℤ◌};
 ghost use Rattle.split.specs.Lanes.{product_at, InLane};
+ghost use Rattle.split.specs.Tables.{empty_row};
 
 use crate::bytes::code_at;
+use kernels::table::Row;
 
 #[derive(Clone, Copy)]
 pub(crate) struct SplitRow {
@@ -10,13 +12,6 @@ pub(crate) struct SplitRow {
     first: i16,
     second: i16,
 }
-
-// A row without steps.
-pub(crate) const EMPTY: SplitRow = SplitRow {
-    steps: 0,
-    first: 0,
-    second: 0,
-};
 
 impl SplitRow {
     // Adds the product of the first codes to the first lane, and of the second codes to the second.
@@ -39,13 +34,20 @@ impl SplitRow {
     {
         self.first as i64 + self.second as i64
     }
+}
 
-    // Sets the lanes and the steps to 0.
-    pub(crate) fn clear(&mut self)
-        ensures steps { self.new.steps ≡ 0 }
-        ensures first { self.new.first ≡ pos 0 }
-        ensures second { self.new.second ≡ pos 0 }
-    {
+impl Row for SplitRow {
+    ghost empty = { empty_row };
+
+    fn empty() -> SplitRow {
+        SplitRow {
+            steps: 0,
+            first: 0,
+            second: 0,
+        }
+    }
+
+    fn clear(&mut self) {
         self.steps = 0;
         self.first = 0;
         self.second = 0;

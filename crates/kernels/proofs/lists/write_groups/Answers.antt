@@ -1,5 +1,5 @@
 -- One group more, and all of them.
-use Rattle.std.proofs.Common.{◌≡◌, ℕ, ◌+◌, ◌-◌, ◌*◌, ◌≤◌, min, List, ◌++◌, length, take, drop, ℤ, sym, ap, ◌∙◌, subst, arith, rules}
+use Rattle.std.proofs.Common.{◌≡◌, ◌+◌, ◌-◌, ◌*◌, min, List, length, take, drop, ℤ, sym, ap, ◌∙◌, subst, arith, rules}
 use Rattle.std.specs.List.{AllByRecursion}
 use Rattle.std.proofs.ByRecursion.{All-take, All-drop}
 use Rattle.std.proofs.lemmas.List.{length-take, length-drop}
@@ -7,7 +7,6 @@ use Rattle.codes.specs.declared.facts.Facts.{Facts}
 use Rattle.codes.specs.Codes.{Within, groups}
 use Rattle.codes.specs.Shapes.{ends_on, words_on}
 use Rattle.kernels.specs.Groups.{filled}
-use Rattle.kernels.specs.Lists.{packed_groups}
 use Rattle.kernels.proofs.Chunking.{codes_turn, codes_end}
 use Rattle.kernels.proofs.ListLoops.{group_written, write_turn, write_all}
 use Rattle.kernels.proofs.lists.write_groups.Goals as goal

@@ -1,11 +1,11 @@
 -- A group that packs its codes, the first that does not, and the end.
-use Rattle.std.proofs.Common.{◌≡◌, ℕ, ◌-◌, ◌*◌, ◌<◌, ◌≤◌, Bool, is_some, sym, ap, ◌∙◌, subst, arith, rules}
+use Rattle.std.proofs.Common.{◌≡◌, ℕ, ◌-◌, ◌*◌, ◌<◌, ◌≤◌, is_some, sym, ap, ◌∙◌, subst, arith, rules}
 use Rattle.codes.specs.declared.facts.Facts.{Facts}
 use Rattle.codes.specs.Codes.{groups}
 use Rattle.codes.specs.Shapes.{words_on}
 use Rattle.kernels.specs.Lists.{first_codes, bad_group, unpacked_list}
 use Rattle.kernels.proofs.Chunking.{words_turn, exact_end}
-use Rattle.kernels.proofs.UnpackedLists.{group_at, rest_from, good_more, good_all, bad_here}
+use Rattle.kernels.proofs.UnpackedLists.{rest_from, good_more, good_all, bad_here}
 use Rattle.kernels.proofs.lists.PackedList.first_bad.Goals as goal
 
 pub overflow_mul-group : goal.overflow_mul-group

@@ -1,18 +1,30 @@
-use Rattle.std.proofs.Common.{◌≡◌, length, rules}
-use Rattle.kernels.proofs.Tables.{signed_answer}
-use Rattle.split.proofs.RowTables.{drain_table}
+use Rattle.std.proofs.Common.{◌≡◌, length, ap, ◌∙◌, rules}
+use Rattle.std.proofs.lemmas.Result.{err_from_is_err_and}
+use Rattle.kernels.proofs.Tables.{row_refused, row_answered, signed_answer}
+use Rattle.split.specs.Tables.{row_total}
+use Rattle.split.proofs.RowTables.{taken_row_holds, taken_row_drains}
 use Rattle.split.proofs.split.SplitKernel.drain.Goals as goal
 
 pub invariant_of-self : goal.invariant_of-self
 invariant_of-self c =
     let k = c.args.self.now in
+    let holds = taken_row_holds k c.args.row c.take_row.result c.take_row.new.rows c.take_row.ensures.answer c.take_row.ensures.after in
+    record { shape_rule = k.shape_rule; lane_rule = k.lane_rule; rows_rule = holds }
+
+pub returns-in_err-drained : goal.returns-in_err-drained
+returns-in_err-drained c =
     let all : length c.args.self.now.rows ≡ 64 = search rules in
-    let d = drain_table k c.args.row c.clear.new.self all c.if-row-ge64.false c.clear.ensures.steps c.clear.ensures.first c.clear.ensures.second in
-    record { shape_rule = k.shape_rule; lane_rule = k.lane_rule; rows_rule = d.holds }
+    let p = err_from_is_err_and c.from_residual.result c.from_residual.ensures.1 in
+    record {
+      answer = rw (p.1, p.2) (row_refused c.args.row _ _ _ c.in_err-drained.ensures.answer);
+      after = taken_row_drains c.args.self.now c.args.row c.take_row.result c.take_row.new.rows c.take_row.ensures.answer c.take_row.ensures.after all;
+    }
 
 pub returns : goal.returns
 returns c =
     let all : length c.args.self.now.rows ≡ 64 = search rules in
-    let d = drain_table c.args.self.now c.args.row c.clear.new.self all c.if-row-ge64.false c.clear.ensures.steps c.clear.ensures.first c.clear.ensures.second in
-    let answer = signed_answer c.args.row c.total-total.result _ c.if-row-ge64.false (record { sfits = c.total-total.type_inv }) c.total-total.ensures in
-    record { answer = answer; after = d.after }
+    let kept = row_answered c.args.row _ _ c.in_ok-drained.ensures.answer in
+    record {
+      answer = signed_answer c.args.row c.total.result _ kept.0 (record { sfits = c.total.type_inv }) (c.total.ensures ∙ ap row_total kept.1);
+      after = taken_row_drains c.args.self.now c.args.row c.take_row.result c.take_row.new.rows c.take_row.ensures.answer c.take_row.ensures.after all;
+    }
