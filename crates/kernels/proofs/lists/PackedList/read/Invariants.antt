@@ -1,5 +1,5 @@
 -- The codes read so far and those of the groups that are left make the list.
-use Rattle.std.proofs.Common.{◌≡◌, length, List, ℤ, Ok}
+use Rattle.std.proofs.Common.{◌≡◌, List, ℤ, Ok}
 use Rattle.std.specs.Iterator.Adapters.{enumerate_source, enumerate_count}
 use Rattle.std.specs.Slice.Iter.{chunks_exact_size, chunks_exact_rest}
 use Rattle.codes.specs.declared.shape.Shape.{Shape}
