@@ -10,7 +10,7 @@ use Rattle.codes.specs.declared.side.Side.{Side}
 use Rattle.codes.specs.Codes.{groups}
 use Rattle.codes.specs.Shapes.{words_on}
 use Rattle.kernels.specs.Lists.{words_for}
-use Rattle.kernels.proofs.ListSizes.{some_words, part_ends, group_starts, groups_hold}
+use Rattle.kernels.proofs.ListSizes.{some_words, width_of, part_ends, group_starts, groups_hold}
 
 -- a front as long as a chunk, or the whole list where less is left
 pub front_parts : {X : Type 0} (m n : ℕ) (front rest : List X) → length front ≡ min m n → length rest ≡ n - m → (take m (front ++ rest) ≡ front) × (drop m (front ++ rest) ≡ rest)
@@ -63,7 +63,7 @@ turned xs size before after chunk rest p e next same f =
 
 -- ---- whole chunks
 
-pub exact_turn : {X : Type 0} (xs : List X) (size count : ℕ) (s t : _) (p : ℕ × Bor (List X)) → length xs ≡ count * size → 1 ≤ size
+exact_turn : {X : Type 0} (xs : List X) (size count : ℕ) (s t : _) (p : ℕ × Bor (List X)) → length xs ≡ count * size → 1 ≤ size
     → StandsAt xs size (enumerate_count s) (chunks_exact_size (enumerate_source s)) (chunks_exact_rest (enumerate_source s)) → enumerate_steps (chunks_exact_steps {A = X}) s (Some p) t
     → (p.0 < count) × Turn xs size (enumerate_count s) (enumerate_count t) (chunks_exact_size (enumerate_source t)) (chunks_exact_rest (enumerate_source t)) p
 exact_turn xs size count s t p long some stands h =
@@ -89,7 +89,7 @@ exact_end xs size count s t long stands h =
 
 -- ---- chunks of which the last may be short
 
-pub chunks_turn : {X : Type 0} (xs : List X) (size : ℕ) (s t : _) (p : ℕ × Bor (List X))
+chunks_turn : {X : Type 0} (xs : List X) (size : ℕ) (s t : _) (p : ℕ × Bor (List X))
     → StandsAt xs size (enumerate_count s) (chunks_size (enumerate_source s)) (chunks_rest (enumerate_source s)) → enumerate_steps (chunks_steps {A = X}) s (Some p) t
     → (p.0 * size < length xs) × Turn xs size (enumerate_count s) (enumerate_count t) (chunks_size (enumerate_source t)) (chunks_rest (enumerate_source t)) p
 chunks_turn xs size s t p stands h =
@@ -99,34 +99,46 @@ chunks_turn xs size s t p stands h =
     let f = front_at xs size n _ p.1.now _ stands.rest_is step.1.0 (step.1.1 ∙ ap (λ k. min k (length (chunks_rest (enumerate_source s)))) stands.size_is) in
     (subst (λ (i : ℕ). i * size < length xs) (sym h.1) begins, turned xs size n _ _ _ p h.1 h.2 (step.0 ∙ stands.size_is) f)
 
-pub chunks_end : {X : Type 0} (xs : List X) (size : ℕ) (s t : _)
+chunks_end : {X : Type 0} (xs : List X) (size : ℕ) (s t : _)
     → StandsAt xs size (enumerate_count s) (chunks_size (enumerate_source s)) (chunks_rest (enumerate_source s)) → enumerate_steps (chunks_steps {A = X}) s None t → length xs ≤ enumerate_count s * size
 chunks_end xs size s t stands h = omega (arith, ap length stands.rest_is ∙ length-drop (enumerate_count s * size) xs, h.0.1.0)
 
 -- ---- the groups of a list
 
--- a turn over the words of the groups of n codes
-pub words_turn : (f : Facts) (side : Side) (n : ℕ) (words : List ℕ) (s t : _) (p : ℕ × Bor (List ℕ)) → length words ≡ words_for f.shape side n
-    → StandsAt words (words_on f.shape side) (enumerate_count s) (chunks_exact_size (enumerate_source s)) (chunks_exact_rest (enumerate_source s)) → enumerate_steps (chunks_exact_steps {A = ℕ}) s (Some p) t
-    → (p.0 < groups f.shape.group n) × (p.0 * f.shape.group < n)
-    × Turn words (words_on f.shape side) (enumerate_count s) (enumerate_count t) (chunks_exact_size (enumerate_source t)) (chunks_exact_rest (enumerate_source t)) p
-words_turn f side n words s t p long stands h =
-    let e = exact_turn words (words_on f.shape side) (groups f.shape.group n) s t p long (some_words f side) stands h in
-    (e.0, group_starts p.0 f.shape.group n f.shape_rules.2.0 e.0, e.1)
+-- a turn over the words of the groups of n codes; f is what the code has read of the facts F
+pub record WordsTurn (F f : Facts) (side : Side) (n : ℕ) (words : List ℕ) (before after chunk : ℕ) (rest : List ℕ) (p : ℕ × Bor (List ℕ)) : Type 0 where
+  pub there : p.0 < groups F.shape.group n
+  pub starts : p.0 * F.shape.group < n
+  pub read_starts : p.0 * f.shape.group < n
+  pub turn : Turn words (words_on F.shape side) before after chunk rest p
+
+pub words_turn : (F f : Facts) (side : Side) (n : ℕ) (words : List ℕ) (s t : _) (p : ℕ × Bor (List ℕ)) → f ≡ F → length words ≡ words_for F.shape side n
+    → StandsAt words (words_on F.shape side) (enumerate_count s) (chunks_exact_size (enumerate_source s)) (chunks_exact_rest (enumerate_source s)) → enumerate_steps (chunks_exact_steps {A = ℕ}) s (Some p) t
+    → WordsTurn F f side n words (enumerate_count s) (enumerate_count t) (chunks_exact_size (enumerate_source t)) (chunks_exact_rest (enumerate_source t)) p
+words_turn F f side n words s t p same long stands h =
+    let e = exact_turn words (words_on F.shape side) (groups F.shape.group n) s t p long (some_words F side) stands h in
+    let starts : p.0 * F.shape.group < n = group_starts p.0 F.shape.group n F.shape_rules.2.0 e.0 in
+    record { there = e.0; starts = starts; read_starts = subst (λ (x : Facts). p.0 * x.shape.group < n) (sym same) starts; turn = e.1 }
 
 -- a turn over the codes of groups, each of which has its words
-pub codes_turn : (f : Facts) (side : Side) (codes : List ℤ) (s t : _) (p : ℕ × Bor (List ℤ)) (width words : ℕ) → words ≡ words_for f.shape side (length codes) → width ≡ words_on f.shape side
-    → StandsAt codes f.shape.group (enumerate_count s) (chunks_size (enumerate_source s)) (chunks_rest (enumerate_source s)) → enumerate_steps (chunks_steps {A = ℤ}) s (Some p) t
-    → (p.0 < groups f.shape.group (length codes)) × (p.0 * width + width ≤ words) × (p.0 * f.shape.group < length codes)
-    × Turn codes f.shape.group (enumerate_count s) (enumerate_count t) (chunks_size (enumerate_source t)) (chunks_rest (enumerate_source t)) p
-codes_turn f side codes s t p width words long w stands h =
-    let e = chunks_turn codes f.shape.group s t p stands h in
-    let count : ℕ = groups f.shape.group (length codes) in
+pub record CodesTurn (F : Facts) (codes : List ℤ) (width words before after chunk : ℕ) (rest : List ℤ) (p : ℕ × Bor (List ℤ)) : Type 0 where
+  pub there : p.0 < groups F.shape.group (length codes)
+  pub ends : p.0 * width + width ≤ words
+  pub starts : p.0 * F.shape.group < length codes
+  pub turn : Turn codes F.shape.group before after chunk rest p
+
+pub codes_turn : (F f : Facts) (side : Side) (codes : List ℤ) (s t : _) (p : ℕ × Bor (List ℤ)) (width words : ℕ) → f ≡ F → words ≡ words_for F.shape side (length codes) → width ≡ words_on f.shape side
+    → StandsAt codes F.shape.group (enumerate_count s) (chunks_size (enumerate_source s)) (chunks_rest (enumerate_source s)) → enumerate_steps (chunks_steps {A = ℤ}) s (Some p) t
+    → CodesTurn F codes width words (enumerate_count s) (enumerate_count t) (chunks_size (enumerate_source t)) (chunks_rest (enumerate_source t)) p
+codes_turn F f side codes s t p width words same long w stands h =
+    let e = chunks_turn codes F.shape.group s t p stands h in
+    let count : ℕ = groups F.shape.group (length codes) in
     let there : p.0 < count = elim (cases_lt p.0 count) [
       | inl l ↦ l
-      | inr l ↦ absurd (omega (arith, mul-le count f.shape.group p.0 f.shape.group l (omega arith), groups_hold f.shape.group (length codes) f.shape_rules.2.0, e.0))
+      | inr l ↦ absurd (omega (arith, mul-le count F.shape.group p.0 F.shape.group l (omega arith), groups_hold F.shape.group (length codes) F.shape_rules.2.0, e.0))
     ] in
-    (there, omega (arith, part_ends p.0 width count there, long ∙ ap (λ x. count * x) (sym w)), e.0, e.1)
+    let all : words ≡ count * width = long ∙ ap (λ x. count * x) (sym (width_of f F side width w same)) in
+    record { there = there; ends = omega (arith, part_ends p.0 width count there, all); starts = e.0; turn = e.1 }
 
 pub codes_end : (f : Facts) (codes : List ℤ) (s t : _)
     → StandsAt codes f.shape.group (enumerate_count s) (chunks_size (enumerate_source s)) (chunks_rest (enumerate_source s)) → enumerate_steps (chunks_steps {A = ℤ}) s None t

@@ -2,8 +2,9 @@
 use Rattle.std.proofs.Common.{◌≡◌, ℕ, zero, suc, ◌+◌, ◌-◌, ◌<◌, ◌≤◌, Bool, true, false, cond, ◌&&◌, eqb, ltb, List, [], ◌∷◌, ◌++◌, length, get_or, take, drop, set, ℤ, pos, is_some, is_ok, is_err, Some, None, Ok, Option, Result, sym, refl, ap, ◌∙◌, subst, inl, inr, arith}
 use Rattle.std.proofs.lemmas.List.{take_more, take_more_set}
 use Rattle.std.specs.List.{list_all, range_with_len}
+use Rattle.std.proofs.lemmas.List.Folds.{list_all_at}
 use Rattle.std.proofs.lemmas.List.FromFn.{length-range_with_len, get_or-range_with_len}
-use Rattle.std.proofs.lemmas.Bool.{cases_Bool, and_parts, cond-true, cond-false, and_left, and_right, lt-ltb, eq-eqb, true≢false}
+use Rattle.std.proofs.lemmas.Bool.{cases_Bool, cond-true, cond-false, and_left, and_right, lt-ltb, eq-eqb, true≢false}
 use Rattle.codes.specs.declared.shape.Shape.{Shape}
 use Rattle.codes.specs.declared.side.Side.{Side}
 use Rattle.codes.specs.Shapes.{words_on}
@@ -74,11 +75,13 @@ pub none_read : (read : Result ℤ CodeRefusal) (s : Shape) (side : Side) (words
 none_read read s side words None used h z l law = refl
 none_read read s side words (Some codes) used h z l law = absurd (true≢false (z ∙ ap is_err (h ∙ reads s side words codes 0 l (law codes refl))))
 
--- a test of all elements
+-- a test of all elements, at one of them
 all_at : {X : Type 0} (test : X → Bool) (xs : List X) → list_all test xs ≡ true → (k : ℕ) (d : X) → k < length xs → test (get_or xs k d) ≡ true
-all_at test [] h k d l = absurd (omega arith)
-all_at test (x ∷ xs) h zero d l = (and_parts (test x) (list_all test xs) h).0
-all_at test (x ∷ xs) h (suc k) d l = all_at test xs (and_parts (test x) (list_all test xs) h).1 k d (omega arith)
+all_at test xs all k d l =
+    elim (cases_Bool (test (get_or xs k d))) [
+      | inl holds ↦ holds
+      | inr fails ↦ absurd (true≢false (sym all ∙ list_all_at test xs k d l fails))
+    ]
 
 one_fails : {X : Type 0} (test : X → Bool) (xs : List X) → list_all test xs ≡ false → (k : ℕ) × (k < length xs) × ((d : X) → test (get_or xs k d) ≡ false)
 one_fails test [] h = absurd (true≢false h)

@@ -1,8 +1,7 @@
 -- How many groups and words a list takes, and where each group lies.
-use Rattle.std.proofs.Common.{◌≡◌, ℕ, zero, suc, ◌+◌, ◌-◌, ◌*◌, ◌/◌, ◌%◌, ◌<◌, ◌≤◌, min, List, length, take, drop, pos, sym, ap, ◌∙◌, inl, inr, mul-le-mul_right, mod-lt, add-mul, one-mul, mul-suc, arith}
+use Rattle.std.proofs.Common.{◌≡◌, ℕ, zero, suc, ◌+◌, ◌-◌, ◌*◌, ◌/◌, ◌%◌, ◌<◌, ◌≤◌, min, List, take, drop, pos, sym, ap, ◌∙◌, inl, inr, mul-le-mul_right, mod-lt, add-mul, one-mul, mul-suc, arith}
 use native.Mathlib.Nat.{mod-add-div', mul-add-div_right, div-eq_of_lt, div-eq_of_lt-le, div-le_of_le-mul}
 use Rattle.std.proofs.lemmas.Nat.{mul-le, div-add-mod', mod_below}
-use Rattle.std.proofs.lemmas.List.{length-drop, take_all}
 use Rattle.std.proofs.lemmas.Bool.{cases_lt}
 use Rattle.codes.specs.declared.facts.Facts.{Facts}
 use Rattle.codes.specs.declared.shape.Shape.{Shape}
@@ -80,16 +79,6 @@ pub zero_within : (s : Shape) (side : Side) → ShapeRules s → Within (ends_on
 zero_within s Weights r = (r.0.0.1, r.0.1.0)
 zero_within s Activations r = (r.1.0.1, r.1.1.0)
 
--- a part from `at` as the code cuts it: up to `size` elements, or to the list's end
-pub part_is : {X : Type 0} (xs : List X) (at size : ℕ) → take (min (length xs) (at + size) - at) (drop at xs) ≡ take size (drop at xs)
-part_is xs at size =
-    elim (cases_lt (length xs) (at + size)) [
-      | inl h ↦
-          let e : min (length xs) (at + size) - at ≡ length xs - at = omega arith in
-          ap (λ k. take k (drop at xs)) e
-          ∙ (take_all (length xs - at) (drop at xs) (omega (arith, length-drop at xs)) ∙ sym (take_all size (drop at xs) (omega (arith, length-drop at xs))))
-      | inr h ↦ let e : min (length xs) (at + size) - at ≡ size = omega arith in ap (λ k. take k (drop at xs)) e
-    ]
-
+-- a part from `at` as the code cuts it
 pub span_is : {X : Type 0} (xs : List X) (at size : ℕ) → take (at + size - at) (drop at xs) ≡ take size (drop at xs)
 span_is xs at size = let e : at + size - at ≡ size = omega arith in ap (λ k. take k (drop at xs)) e

@@ -137,11 +137,6 @@ pub list_at : (unpacked : List ℕ → Option (List ℤ)) (m w size width n : �
 list_at unpacked m w size width n words e h =
     ap (λ x. unpacked_groups unpacked x w 0 (groups x n) n words) e ∙ ap (λ y. unpacked_groups unpacked size y 0 (groups size n) n words) h
 
--- all of its groups
-pub start_at : (unpacked : List ℕ → Option (List ℤ)) (m w size width n : ℕ) (words : List ℕ) → m ≡ size → w ≡ width
-    → bad_group (rest_from unpacked m w (groups m n) n words 0) ≡ bad_group (unpacked_groups unpacked size width 0 (groups size n) n words)
-start_at unpacked m w size width n words e h = ap bad_group (rest_none unpacked m w (groups m n) n words ∙ list_at unpacked m w size width n words e h)
-
 -- ---- what the answer says
 
 err_not_ok : {T E : Type 0} (e : E) (x : T) → ◌≡◌ {A = Result T E} (Err e) (Ok x) → ⊥

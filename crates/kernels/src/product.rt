@@ -9,6 +9,7 @@ use crate::refusal::{RowRefusal, StepRefusal};
 
 // The product of two packed groups: drains a row, takes one step and drains it again. Whatever is answered, the row has
 // been drained.
+#[tactic(auto, unfolding(crate::specs::Answers::step_gain))]
 pub fn group_product<K: Kernel>(
     kernel: &mut K,
     row: usize,

@@ -1,5 +1,5 @@
 -- A group that packs its codes, the first that does not, and the end.
-use Rattle.std.proofs.Common.{◌≡◌, ℕ, ◌-◌, ◌*◌, ◌<◌, ◌≤◌, is_some, sym, ap, ◌∙◌, subst, arith, rules}
+use Rattle.std.proofs.Common.{◌≡◌, ℕ, ◌-◌, ◌*◌, is_some, sym, ap, ◌∙◌, subst, arith, rules}
 use Rattle.codes.specs.declared.facts.Facts.{Facts}
 use Rattle.codes.specs.Codes.{groups}
 use Rattle.codes.specs.Shapes.{words_on}
@@ -12,16 +12,16 @@ pub overflow_mul-group : goal.overflow_mul-group
 overflow_mul-group g c =
     let list = c.args.self.now in
     let F : Facts = (g.K.Kernel.means list.kernel.now).facts in
-    let t = words_turn F list.side list.count list.words.now c.loop-group.group-iterator c.next.new.self (c.in-Some.group, c.in-Some.words) list.exact c.loop-group.invariant.2 c.in-Some.ensures.steps in
-    let below : c.in-Some.group * c.facts.result.shape.group < list.count = subst (λ (f : Facts). c.in-Some.group * f.shape.group < list.count) (sym c.facts.ensures) t.1 in
+    let t = words_turn F c.facts.result list.side list.count list.words.now c.loop-group.group-iterator c.next.new.self (c.in-Some.group, c.in-Some.words) c.facts.ensures list.exact c.loop-group.invariant.2 c.in-Some.ensures.steps in
+    let below = t.read_starts in
     search (rules, below)
 
 pub overflow_sub-self : goal.overflow_sub-self
 overflow_sub-self g c =
     let list = c.args.self.now in
     let F : Facts = (g.K.Kernel.means list.kernel.now).facts in
-    let t = words_turn F list.side list.count list.words.now c.loop-group.group-iterator c.next.new.self (c.in-Some.group, c.in-Some.words) list.exact c.loop-group.invariant.2 c.in-Some.ensures.steps in
-    subst (λ (f : Facts). c.in-Some.group * f.shape.group ≤ list.count) (sym c.facts.ensures) (omega (arith, t.1))
+    let t = words_turn F c.facts.result list.side list.count list.words.now c.loop-group.group-iterator c.next.new.self (c.in-Some.group, c.in-Some.words) c.facts.ensures list.exact c.loop-group.invariant.2 c.in-Some.ensures.steps in
+    omega (arith, t.read_starts)
 
 pub returns-then-not-packs_codes : goal.returns-then-not-packs_codes
 returns-then-not-packs_codes g c =
@@ -33,11 +33,11 @@ returns-then-not-packs_codes g c =
     let width = words_on F.shape list.side in
     let count = groups F.shape.group n in
     let P : ℕ → Type 0 = λ i. bad_group (rest_from u F.shape.group width count n words i) ≡ bad_group (unpacked_list (g.K.Kernel.unpacked F.shape) F.shape list.side n words) in
-    let t = words_turn F list.side n words c.loop-group.group-iterator c.next.new.self (c.in-Some.group, c.in-Some.words) list.exact c.loop-group.invariant.2 c.in-Some.ensures.steps in
+    let t = words_turn F c.facts.result list.side n words c.loop-group.group-iterator c.next.new.self (c.in-Some.group, c.in-Some.words) c.facts.ensures list.exact c.loop-group.invariant.2 c.in-Some.ensures.steps in
     let asked = c.if-not-packs_codes.ensures
     ∙ ap (λ (f : Facts). is_some (first_codes (n - c.in-Some.group * f.shape.group) (u c.in-Some.words.now))) c.facts.ensures
-    ∙ ap (λ ws. is_some (first_codes (n - c.in-Some.group * F.shape.group) (u ws))) t.2.part_is in
-    bad_here u F.shape.group width count n words c.in-Some.group _ t.0 asked (subst P (sym t.2.at) c.loop-group.invariant.3)
+    ∙ ap (λ ws. is_some (first_codes (n - c.in-Some.group * F.shape.group) (u ws))) t.turn.part_is in
+    bad_here u F.shape.group width count n words c.in-Some.group _ t.there asked (subst P (sym t.turn.at) c.loop-group.invariant.3)
 
 pub loop-group-preserved : goal.loop-group-preserved
 loop-group-preserved g c =
@@ -49,15 +49,15 @@ loop-group-preserved g c =
     let width = words_on F.shape list.side in
     let count = groups F.shape.group n in
     let P : ℕ → Type 0 = λ i. bad_group (rest_from u F.shape.group width count n words i) ≡ bad_group (unpacked_list (g.K.Kernel.unpacked F.shape) F.shape list.side n words) in
-    let t = words_turn F list.side n words c.loop-group.group-iterator c.next.new.self (c.in-Some.group, c.in-Some.words) list.exact c.loop-group.invariant.2 c.in-Some.ensures.steps in
+    let t = words_turn F c.facts.result list.side n words c.loop-group.group-iterator c.next.new.self (c.in-Some.group, c.in-Some.words) c.facts.ensures list.exact c.loop-group.invariant.2 c.in-Some.ensures.steps in
     let asked = c.if-not-packs_codes.ensures
     ∙ ap (λ (f : Facts). is_some (first_codes (n - c.in-Some.group * f.shape.group) (u c.in-Some.words.now))) c.facts.ensures
-    ∙ ap (λ ws. is_some (first_codes (n - c.in-Some.group * F.shape.group) (u ws))) t.2.part_is in
-    let at : P c.in-Some.group = subst P (sym t.2.at) c.loop-group.invariant.3 in (
+    ∙ ap (λ ws. is_some (first_codes (n - c.in-Some.group * F.shape.group) (u ws))) t.turn.part_is in
+    let at : P c.in-Some.group = subst P (sym t.turn.at) c.loop-group.invariant.3 in (
       search rules,
       search rules,
-      t.2.on,
-      subst P (sym t.2.next) (good_more u F.shape.group width count n words c.in-Some.group _ t.0 asked at),
+      t.turn.on,
+      subst P (sym t.turn.next) (good_more u F.shape.group width count n words c.in-Some.group _ t.there asked at),
     )
 
 pub returns : goal.returns

@@ -1,5 +1,5 @@
 -- One group more, and all of them.
-use Rattle.std.proofs.Common.{◌≡◌, ℕ, ◌+◌, ◌-◌, ◌*◌, ◌<◌, min, length, take, drop, sym, ap, ◌∙◌, subst, arith, rules}
+use Rattle.std.proofs.Common.{◌≡◌, ℕ, ◌+◌, ◌-◌, ◌*◌, min, length, take, drop, sym, ap, ◌∙◌, subst, arith, rules}
 use Rattle.std.proofs.lemmas.List.{length-take, length-drop}
 use Rattle.std.specs.Iterator.Adapters.{enumerate_count}
 use Rattle.codes.specs.declared.facts.Facts.{Facts}
@@ -29,8 +29,8 @@ pub overflow_mul-start : goal.overflow_mul-start
 overflow_mul-start g c =
     let list = c.args.self.now in
     let F : Facts = (g.K.Kernel.means list.kernel.now).facts in
-    let t = words_turn F list.side list.count list.words.now c.loop-group.group-iterator c.next.new.self (c.in-Some.group, c.in-Some.words) list.exact c.loop-group.invariant.2 c.in-Some.ensures.steps in
-    let below : c.in-Some.group * c.facts.result.shape.group < list.count = subst (λ (f : Facts). c.in-Some.group * f.shape.group < list.count) (sym c.facts.ensures) t.1 in
+    let t = words_turn F c.facts.result list.side list.count list.words.now c.loop-group.group-iterator c.next.new.self (c.in-Some.group, c.in-Some.words) c.facts.ensures list.exact c.loop-group.invariant.2 c.in-Some.ensures.steps in
+    let below = t.read_starts in
     let long = c.loop-group.auto.codes ∙ c.requires in
     search (rules, below, long)
 
@@ -38,8 +38,8 @@ pub overflow_add-start : goal.overflow_add-start
 overflow_add-start g c =
     let list = c.args.self.now in
     let F : Facts = (g.K.Kernel.means list.kernel.now).facts in
-    let t = words_turn F list.side list.count list.words.now c.loop-group.group-iterator c.next.new.self (c.in-Some.group, c.in-Some.words) list.exact c.loop-group.invariant.2 c.in-Some.ensures.steps in
-    let below : c.in-Some.group * c.facts.result.shape.group < list.count = subst (λ (f : Facts). c.in-Some.group * f.shape.group < list.count) (sym c.facts.ensures) t.1 in
+    let t = words_turn F c.facts.result list.side list.count list.words.now c.loop-group.group-iterator c.next.new.self (c.in-Some.group, c.in-Some.words) c.facts.ensures list.exact c.loop-group.invariant.2 c.in-Some.ensures.steps in
+    let below = t.read_starts in
     let long = c.loop-group.auto.codes ∙ c.requires in
     let small = c.facts.result.shape_rules.2.1 in
     search (rules, below, long, small)
@@ -48,8 +48,8 @@ pub offset_bounds-codes-start : goal.offset_bounds-codes-start
 offset_bounds-codes-start g c =
     let list = c.args.self.now in
     let F : Facts = (g.K.Kernel.means list.kernel.now).facts in
-    let t = words_turn F list.side list.count list.words.now c.loop-group.group-iterator c.next.new.self (c.in-Some.group, c.in-Some.words) list.exact c.loop-group.invariant.2 c.in-Some.ensures.steps in
-    let below : c.in-Some.group * c.facts.result.shape.group < list.count = subst (λ (f : Facts). c.in-Some.group * f.shape.group < list.count) (sym c.facts.ensures) t.1 in
+    let t = words_turn F c.facts.result list.side list.count list.words.now c.loop-group.group-iterator c.next.new.self (c.in-Some.group, c.in-Some.words) c.facts.ensures list.exact c.loop-group.invariant.2 c.in-Some.ensures.steps in
+    let below = t.read_starts in
     let long = c.loop-group.auto.codes ∙ c.requires in
     search (rules, below, long)
 
@@ -57,16 +57,16 @@ pub slice_bounds-read_group-count : goal.slice_bounds-read_group-count
 slice_bounds-read_group-count g c =
     let list = c.args.self.now in
     let F : Facts = (g.K.Kernel.means list.kernel.now).facts in
-    let t = words_turn F list.side list.count list.words.now c.loop-group.group-iterator c.next.new.self (c.in-Some.group, c.in-Some.words) list.exact c.loop-group.invariant.2 c.in-Some.ensures.steps in
-    let below : c.in-Some.group * c.facts.result.shape.group < list.count = subst (λ (f : Facts). c.in-Some.group * f.shape.group < list.count) (sym c.facts.ensures) t.1 in
+    let t = words_turn F c.facts.result list.side list.count list.words.now c.loop-group.group-iterator c.next.new.self (c.in-Some.group, c.in-Some.words) c.facts.ensures list.exact c.loop-group.invariant.2 c.in-Some.ensures.steps in
+    let below = t.read_starts in
     omega (arith, below, c.loop-group.auto.codes, c.requires, c.min-end.ensures)
 
 pub slice_bounds-read_group-start : goal.slice_bounds-read_group-start
 slice_bounds-read_group-start g c =
     let list = c.args.self.now in
     let F : Facts = (g.K.Kernel.means list.kernel.now).facts in
-    let t = words_turn F list.side list.count list.words.now c.loop-group.group-iterator c.next.new.self (c.in-Some.group, c.in-Some.words) list.exact c.loop-group.invariant.2 c.in-Some.ensures.steps in
-    let below : c.in-Some.group * c.facts.result.shape.group < list.count = subst (λ (f : Facts). c.in-Some.group * f.shape.group < list.count) (sym c.facts.ensures) t.1 in
+    let t = words_turn F c.facts.result list.side list.count list.words.now c.loop-group.group-iterator c.next.new.self (c.in-Some.group, c.in-Some.words) c.facts.ensures list.exact c.loop-group.invariant.2 c.in-Some.ensures.steps in
+    let below = t.read_starts in
     omega (arith, below, c.loop-group.auto.codes, c.requires, c.min-end.ensures)
 
 pub loop-group-preserved : goal.loop-group-preserved
@@ -81,17 +81,17 @@ loop-group-preserved g c =
     let width = words_on F.shape side in
     let at = c.in-Some.group in
     let m : f.shape.group ≡ F.shape.group = size_of f F c.facts.ensures in
-    let t = words_turn F side n words c.loop-group.group-iterator c.next.new.self (at, c.in-Some.words) list.exact c.loop-group.invariant.2 c.in-Some.ensures.steps in
+    let t = words_turn F f side n words c.loop-group.group-iterator c.next.new.self (at, c.in-Some.words) c.facts.ensures list.exact c.loop-group.invariant.2 c.in-Some.ensures.steps in
     let long : length c.loop-group.codes ≡ n = c.loop-group.auto.codes ∙ c.requires in
     let end : c.min-end.result ≡ min n (at * f.shape.group + f.shape.group) = omega (arith, c.min-end.ensures, long) in
     let short : length (take (c.min-end.result - at * f.shape.group) (drop (at * f.shape.group) c.loop-group.codes)) ≡ min n (at * f.shape.group + f.shape.group) - at * f.shape.group = simp (length-take, length-drop) (omega (arith, end, long)) in (
       search rules,
       search rules,
-      t.2.on,
+      t.turn.on,
       λ all h.
-          read_turn u F.shape.group width (groups F.shape.group n) n words at _ _ f.shape.group _ c.loop-group.codes c.read_group.new.codes all m t.2.at t.2.next t.0 t.1 long (c.read_group.auto.codes ∙ short)
+          read_turn u F.shape.group width (groups F.shape.group n) n words at _ _ f.shape.group _ c.loop-group.codes c.read_group.new.codes all m t.turn.at t.turn.next t.there t.starts long (c.read_group.auto.codes ∙ short)
           (λ group e. (g.met.K.Kernel.unpacks list.kernel.now side (take width (drop (at * width) words)) group e).0.full)
-          (λ group e. c.read_group.ensures group (ap u t.2.part_is ∙ e) (omega (arith, short, m)) ∙ ap (λ i. take i group) short)
+          (λ group e. c.read_group.ensures group (ap u t.turn.part_is ∙ e) (omega (arith, short, m)) ∙ ap (λ i. take i group) short)
           (c.loop-group.invariant.3 all h),
     )
 
