@@ -24,6 +24,13 @@ pub fn record_at<R: Copy>(records: &[R], row: usize, empty: R) -> R
     records.get(row).copied().unwrap_or(empty)
 }
 
+// What a row keeps. Past the table stand empty rows.
+pub fn row_at<R: Row>(rows: &[R], row: usize) -> R
+    ensures { result ≡ slice_index_or rows.now row R.empty }
+{
+    record_at(rows, row, R::empty())
+}
+
 // Answers what a row kept, and empties it.
 pub fn take_row<R: Row>(rows: &mut [R; 64], row: usize) -> Result<R, RowRefusal>
     ensures answer { result ≡ row_answer row (slice_index_or rows.old row R.empty) }

@@ -8,7 +8,7 @@ ghost use Rattle.lanes.specs.Words.{packed_lanes, unpacked_lanes, is_packing};
 
 use crate::lanes::Lanes;
 use codes::side::Side;
-use kernels::questions::{ask_code, ask_group, ask_step, lengths_fit};
+use kernels::questions::{ask_code, ask_group, ask_step, lengths_fit, may_step};
 use kernels::refusal::{CodeRefusal, PackRefusal, StepRefusal};
 
 impl Lanes {
@@ -76,6 +76,6 @@ impl Lanes {
     fn may_step(&self, steps: u32) -> bool
         ensures { result ≡ nat_lt steps self.now.facts.interval }
     {
-        steps < self.facts.interval
+        may_step(&self.facts, steps)
     }
 }

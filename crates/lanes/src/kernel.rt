@@ -17,7 +17,7 @@ use codes::side::Side;
 use kernels::kernel::Kernel;
 use kernels::planned::Planned;
 use kernels::refusal::{CodeRefusal, PackRefusal, RowRefusal, StepRefusal};
-use kernels::table::{Row, record_at, take_row};
+use kernels::table::{Row, row_at, take_row};
 use plans::plan::Plan;
 use std::marker::PhantomData;
 
@@ -104,13 +104,6 @@ impl<M: LaneMake> LaneKernel<M> {
         ensures yes { OnOk result (StepAllowed (unpacked_lanes self.now.lanes.width self.now.lanes.facts.shape) self.now.lanes.facts row (get_or self.now.rows row (empty_row M.Accumulator.ZERO)).steps weights.now activations.now) }
     {
         self.lanes
-            .ask_step(row, self.record(row).steps, weights, activations)
-    }
-
-    // What a row keeps. Past the table stand empty rows.
-    fn record(&self, row: usize) -> LaneRow<M::Accumulator>
-        ensures { result ≡ slice_index_or self.now.rows row (empty_row M.Accumulator.ZERO) }
-    {
-        record_at(&self.rows, row, LaneRow::empty())
+            .ask_step(row, row_at(&self.rows, row).steps, weights, activations)
     }
 }

@@ -14,7 +14,7 @@ use kernels::kernel::Kernel;
 use kernels::planned::Planned;
 use kernels::questions::{ask_code, ask_group, ask_step, lengths_fit, may_step};
 use kernels::refusal::{CodeRefusal, PackRefusal, RowRefusal, StepRefusal};
-use kernels::table::{Row, record_at, take_row};
+use kernels::table::{Row, row_at, take_row};
 use plans::checked_plan::CheckedPlan;
 use plans::plan::PlanesPlan;
 
@@ -103,14 +103,7 @@ impl Planes {
             row < 64,
             lengths_fit(&self.facts.shape, weights.len(), activations.len()),
             true,
-            may_step(&self.facts, self.record(row).steps),
+            may_step(&self.facts, row_at(&self.rows, row).steps),
         )
-    }
-
-    // What a row keeps. Past the table stand empty rows.
-    fn record(&self, row: usize) -> PlanesRow
-        ensures { result ≡ slice_index_or self.now.rows row empty_row }
-    {
-        record_at(&self.rows, row, PlanesRow::empty())
     }
 }

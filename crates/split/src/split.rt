@@ -17,7 +17,7 @@ use kernels::kernel::Kernel;
 use kernels::planned::Planned;
 use kernels::questions::{ask_code, ask_group, ask_step, lengths_fit, may_step};
 use kernels::refusal::{CodeRefusal, PackRefusal, RowRefusal, StepRefusal};
-use kernels::table::{Row, record_at, take_row};
+use kernels::table::{Row, row_at, take_row};
 use plans::checked_plan::CheckedPlan;
 use plans::plan::SplitPlan;
 
@@ -104,7 +104,7 @@ impl Split {
             row < 64,
             lengths_fit(&self.facts.shape, weights.len(), activations.len()),
             self.are_packings(weights, activations),
-            may_step(&self.facts, self.record(row).steps),
+            may_step(&self.facts, row_at(&self.rows, row).steps),
         )
     }
 
@@ -120,12 +120,5 @@ impl Split {
         ensures { result ≡ is_packing (ends_on self.now.facts.shape side) words.now }
     {
         words.len() == 1 && is_word(self.facts.shape.ends(side), words[0])
-    }
-
-    // What a row keeps. Past the table stand empty rows.
-    fn record(&self, row: usize) -> SplitRow
-        ensures { result ≡ slice_index_or self.now.rows row empty_row }
-    {
-        record_at(&self.rows, row, SplitRow::empty())
     }
 }

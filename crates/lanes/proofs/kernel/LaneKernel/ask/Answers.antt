@@ -10,7 +10,7 @@ returns g c =
     let k = c.args.self.now in
     let l = c.args.self.now.lanes in
     let s = c.args.self.now.lanes.facts.shape in
-    let steps = ap (λ (r : LaneRow g.row.M-Accumulator.Denot). r.steps) c.record.ensures in
+    let steps = ap (λ (r : LaneRow g.row.M-Accumulator.Denot). r.steps) c.row_at.ensures in
     record {
       answer = c.ask_step.ensures.answer (g.M.LaneMake.width s) k.width_rule
           ∙ ap (λ (n : ℕ). step_answer (step_gain (unpacked_lanes (g.M.LaneMake.width c.args.self.now.lanes.facts.shape) c.args.self.now.lanes.facts.shape) c.args.self.now.lanes.facts c.args.row n c.args.weights.now c.args.activations.now)) steps;

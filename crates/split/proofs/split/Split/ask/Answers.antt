@@ -12,7 +12,7 @@ returns c =
     let weights = c.args.weights.now in
     let activations = c.args.activations.now in
     let packings = c.are_packings.ensures ∙ ap₂ ◌&&◌ (packing_tested f.shape Weights weights) (packing_tested f.shape Activations activations) in
-    let answered = subst (λ (r : SplitRow). StepAnswered (unpacked_split c.args.self.now.facts.shape) c.args.self.now.facts c.args.row r.steps c.args.weights.now c.args.activations.now c.ask_step.result) c.record.ensures
-    (step_answered (unpacked_split f.shape) f c.args.row c.record.result.steps weights activations
+    let answered = subst (λ (r : SplitRow). StepAnswered (unpacked_split c.args.self.now.facts.shape) c.args.self.now.facts c.args.row r.steps c.args.weights.now c.args.activations.now c.ask_step.result) c.row_at.ensures
+    (step_answered (unpacked_split f.shape) f c.args.row c.row_at.result.steps weights activations
     c.lengths_fit.result c.are_packings.result c.may_step.result c.ask_step.result c.ask_step.ensures c.lengths_fit.ensures packings c.may_step.ensures) in
     record { answer = answered.answer; yes = answered.found }
