@@ -86,9 +86,8 @@ impl<K: Kernel> OpenRun<K> {
             mut kernel,
             mut kept,
         } = self;
-        let rows = kernel.facts().rows;
-        for row in 0..rows {
-            let made = drain_row(&mut kernel, row, &mut kept.rows[row]);
+        for (row, record) in kept.rows.iter_mut().enumerate() {
+            let made = drain_row(&mut kernel, row, record);
             kept.drains = counted(kept.drains, made);
         }
         SettledRun { kernel, kept }
