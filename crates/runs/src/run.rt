@@ -93,10 +93,9 @@ impl<K: Kernel> SettledRun<K> {
         if row >= facts.rows {
             return Err(ReadRefusal::Row);
         }
-        match i32::try_from(corrected_sum(&self.kept, row, facts.zeros)) {
-            Ok(sum) => Ok((sum, self.kept.steps, self.kept.drains)),
-            Err(_) => Ok((0, self.kept.steps, self.kept.drains)),
-        }
+        // The sum of a settled run fits.
+        let sum = i32::try_from(corrected_sum(&self.kept, row, facts.zeros)).unwrap_or(0);
+        Ok((sum, self.kept.steps, self.kept.drains))
     }
 
     // Goes on with all sums kept.
