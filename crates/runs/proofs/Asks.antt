@@ -1,9 +1,11 @@
 -- From the answers of a kernel to what they say.
-use Rattle.std.proofs.Common.{◌≡◌, ℕ, ◌<◌, Bool, true, false, cond, eqb, ltb, List, length, ℤ, Some, None, Ok, Option, sym, refl, ap, ◌∙◌, arith}
+use Rattle.std.proofs.Common.{◌≡◌, ℕ, ◌<◌, Bool, true, false, cond, eqb, ltb, List, length, ℤ, Some, None, Ok, Option, Result, sym, refl, ap, ◌∙◌, arith}
 use Rattle.std.proofs.lemmas.Bool.{ltb-true, lt-ltb, eq-eqb, and_from, cond-true, true≢false}
 use Rattle.codes.specs.declared.facts.Facts.{Facts}
 use Rattle.codes.specs.declared.side.Side.TheVariants.{Weights, Activations}
 use Rattle.codes.specs.Shapes.{words_on}
+use Rattle.std.specs.Result.{result_unwrap_or}
+use Rattle.kernels.specs.declared.refusal.RowRefusal.{RowRefusal}
 use Rattle.kernels.specs.Groups.{Packing, Unpacking, Packs, Unpacks}
 use Rattle.kernels.specs.Answers.{ask, row_answer, step_gain, both_dot, gain_of}
 use Rattle.kernels.proofs.GroupReads.{packing_length}
@@ -15,6 +17,9 @@ asked false x v e h = absurd (let z : ◌≡◌ {A = ℕ} 0 1 = cc in omega arit
 -- an answer of a call that asks for the row alone
 pub row_answered : {V : Type 0} (row : ℕ) (x v : V) → Ok x ≡ row_answer row v → (row < 64) × (x ≡ v)
 row_answered row x v h = let a = asked (ltb row 64) x v _ h in (ltb-true row 64 a.0, a.1)
+
+pub answered_or : {V : Type 0} (row : ℕ) (x d : V) (a : Result V RowRefusal) → a ≡ row_answer row x → row < 64 → result_unwrap_or a d ≡ x
+answered_or row x d a h l = ap (λ r. result_unwrap_or r d) (h ∙ cond-true (ltb row 64) _ _ (lt-ltb row 64 l))
 
 -- in a row that there is, a drain takes the first
 pub in_row : {V : Type 0} (row : ℕ) (x y : V) → row < 64 → cond (ltb row 64) x y ≡ x

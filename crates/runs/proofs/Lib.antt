@@ -1,3 +1,4 @@
+pub mod Chunks
 pub mod Totals
 pub mod Rows
 pub mod Checking

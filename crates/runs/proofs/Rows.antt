@@ -1,9 +1,11 @@
 -- The rows of a feed, one after another.
-use Rattle.std.proofs.Common.{◌≡◌, ℕ, zero, suc, ◌+◌, ◌-◌, ◌*◌, ◌<◌, ◌≤◌, ◌⊎◌, List, length, get_or, take, drop, set, ℤ, pos, Some, None, Ok, Err, Option, Result, sym, refl, ap, ◌∙◌, subst, inl, inr, mul-le-mul_right, mul-le-mul, suc-add, zero-add, add-one, arith, get_or-set_other, get_or-set_same}
+use Rattle.std.proofs.Common.{◌≡◌, ℕ, zero, suc, ◌+◌, ◌-◌, ◌*◌, ◌<◌, ◌≤◌, ◌⊎◌, List, length, get_or, take, drop, set, ℤ, pos, Some, None, Ok, Err, Option, Result, sym, refl, ap, ◌∙◌, subst, inl, inr, mul-le-mul_right, mul-le-mul, suc-add, zero-add, zero-mul, add-one, arith, get_or-set_other, get_or-set_same}
 use Rattle.std.proofs.lemmas.Bool.{cases_eq}
 use Rattle.codes.specs.declared.facts.Facts.{Facts}
 use Rattle.codes.specs.declared.side.Side.TheVariants.{Weights}
+use Rattle.codes.specs.Codes.{groups}
 use Rattle.kernels.specs.Lists.{words_for}
+use Rattle.kernels.proofs.ListSizes.{groups_hold}
 use Rattle.runs.specs.Feeds.{row_words, bad_in, or_else, first_bad_row, codes_of}
 use Rattle.runs.specs.Passes.{codes_total, list_total}
 
@@ -25,6 +27,15 @@ pub row_part : (f F : Facts) (n size row : ℕ) (weights : List ℕ) → size �
 row_part f F n size row weights es e =
     let span : (row * size + size) - row * size ≡ size = omega arith in
     ap (λ i. take i (drop (row * size) weights)) span ∙ ap (λ i. take i (drop (row * i) weights)) (es ∙ ap (λ (x : Facts). words_for x.shape Weights n) e)
+
+-- the words of a row of some codes are some
+pub row_some : (f : Facts) (n : ℕ) → 1 ≤ n → 1 ≤ words_for f.shape Weights n
+row_some f n l =
+    let g : ℕ = groups f.shape.group n in
+    let hold = groups_hold f.shape.group n f.shape_rules.2.0 in
+    let none : 0 * f.shape.group ≡ 0 = zero-mul f.shape.group in
+    let some : 1 ≤ g = elim (cases_eq (groups f.shape.group n) 0) [ inl z ↦ absurd (omega (arith, hold, ap (λ i. i * f.shape.group) z, none)) | inr ne ↦ omega arith ] in
+    mul-le-mul {n₁ = 1} {m₁ = 1} some f.shape_rules.3.0.0
 
 -- ---- the first bad row
 
@@ -94,14 +105,16 @@ not_totalled (Ok codes) group h = absurd (let z : ◌≡◌ {A = ℕ} 0 1 = cc i
 not_totalled (Err bad) group h = ap Err (err_same bad group (sym h))
 
 -- one row more
-pub rows_more : (codes : ℕ → Result (List ℤ) ℕ) (row : ℕ) (sum written : ℤ) (sums : List ℤ) → written ≡ sum → row < length sums → Ok sum ≡ list_total (codes row)
-    → (first_bad_row codes row ≡ None) × ((r : ℕ) → r < row → get_or sums r (pos 0) ≡ codes_total (codes_of (codes r)))
-    → (first_bad_row codes (row + 1) ≡ None) × ((r : ℕ) → r < row + 1 → get_or (set sums row written) r (pos 0) ≡ codes_total (codes_of (codes r)))
-rows_more codes row sum written sums e l h before =
+pub rows_more : (codes : ℕ → Result (List ℤ) ℕ) (at row next : ℕ) (sum written : ℤ) (sums : List ℤ) → at ≡ row → next ≡ row + 1 → written ≡ sum → row < length sums → Ok sum ≡ list_total (codes row)
+    → first_bad_row codes row ≡ None → ((r : ℕ) → r < row → get_or sums r (pos 0) ≡ codes_total (codes_of (codes r)))
+    → (first_bad_row codes next ≡ None) × ((r : ℕ) → r < next → get_or (set sums at written) r (pos 0) ≡ codes_total (codes_of (codes r)))
+rows_more codes at row next sum written sums here after e l h good before =
     let t = totalled row (codes row) sum h in (
-      row_good codes row before.0 t.good,
-      λ r k. elim (cases_eq r row) [
-        | inl same ↦ subst (λ (i : ℕ). get_or (set sums row written) i (pos 0) ≡ codes_total (codes_of (codes i))) (sym same) (get_or-set_same sums row written (pos 0) l ∙ e ∙ t.sum_is)
-        | inr other ↦ get_or-set_other sums row r written (pos 0) other ∙ before.1 r (omega arith)
-      ],
+      ap (first_bad_row codes) after ∙ row_good codes row good t.good,
+      λ r k.
+          ap (λ i. get_or (set sums i written) r (pos 0)) here
+          ∙ elim (cases_eq r row) [
+            | inl same ↦ subst (λ (i : ℕ). get_or (set sums row written) i (pos 0) ≡ codes_total (codes_of (codes i))) (sym same) (get_or-set_same sums row written (pos 0) l ∙ e ∙ t.sum_is)
+            | inr other ↦ get_or-set_other sums row r written (pos 0) other ∙ before r (omega arith)
+          ],
     )

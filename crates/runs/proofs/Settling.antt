@@ -1,10 +1,10 @@
 -- Settling row after row.
-use Rattle.std.proofs.Common.{◌≡◌, ℕ, ◌+◌, ◌*◌, ◌/◌, ◌%◌, ◌<◌, ◌≤◌, min, ◌∷◌, length, take, set, ℤ, pos, ◌+ℤ◌, sym, refl, ap, ◌∙◌, subst, inl, inr, mod-eq_of_lt, add-mul, mul-le-mul, one-mul, zero-mul, mul-add, arith, get_or-set_other, get_or-set_same, w64, below_more}
+use Rattle.std.proofs.Common.{◌≡◌, ℕ, ◌+◌, ◌*◌, ◌/◌, ◌%◌, ◌<◌, ◌≤◌, min, List, ◌∷◌, length, take, set, ℤ, pos, ◌+ℤ◌, sym, refl, ap, ◌∙◌, subst, inl, inr, mod-eq_of_lt, add-mul, mul-le-mul, one-mul, zero-mul, mul-add, arith, get_or-set_other, get_or-set_same, w64, below_more}
 use native.Mathlib.Nat.{zero-mod, zero-div}
 use Rattle.std.specs.List.{AllByRecursion}
 use Rattle.std.specs.Int.{int_wrap}
 use Rattle.std.proofs.lemmas.Int.{ints, int_wrap_fits}
-use Rattle.std.proofs.lemmas.Bool.{cases_lt}
+use Rattle.std.proofs.lemmas.Bool.{cases_eq, cases_lt}
 use Rattle.codes.specs.declared.facts.Facts.{Facts}
 use Rattle.codes.specs.Codes.{groups}
 use Rattle.codes.specs.Sums.{sum_of}
@@ -22,14 +22,11 @@ use Rattle.runs.proofs.Starts.{none_left}
 
 -- ---- what is kept when the record of a row is written and its drains are counted
 
+abbrev pub with_rows : Kept → List RowRecord → (drains : ℕ) → Kept
+with_rows k rows drains = record { rows = rows; activation_sum = k.activation_sum; accepted = k.accepted; steps = k.steps; drains = drains }
+
 abbrev pub with_row : Kept → (row : ℕ) → RowRecord → (drains : ℕ) → Kept
-with_row k row new drains = record {
-  rows = set k.rows row new;
-  activation_sum = k.activation_sum;
-  accepted = k.accepted;
-  steps = k.steps;
-  drains = drains;
-}
+with_row k row new drains = with_rows k (set k.rows row new) drains
 
 -- a run that tells a story has made few drains
 pub drains_small : (m : Meaning) (k : Kept) (s : Story) → Tells m k s → k.drains ≤ 4194304
@@ -39,6 +36,9 @@ drains_small m k s t =
     let all : f.rows * drains_of f.shape.group f.interval s ≤ 64 * 65536 = mul-le-mul {n₂ = 64} {m₂ = 65536} f.rows_rule.1 each in
     let few : f.rows * drains_of f.shape.group f.interval s ≤ 4194304 = all in
     omega (arith, t.all_drains)
+
+one_at_most : (n : ℕ) → min 1 n ≤ 1
+one_at_most n = omega arith
 
 -- one row more has made its drains
 pub drains_counted : (now before row each made after : ℕ) → made ≡ each → each ≤ 65536 → row ≤ 64 → before ≤ 4194304 → now ≡ before + row * each → after ≡ (now + made) % 18446744073709551616
@@ -120,8 +120,8 @@ module _ (m : Meaning) (k : Kept) (s : Story) (t : Tells m k s) where
     abbrev after : Kept
     after = with_row c i new drains
 
-    pub settled_more : SettledTo m k s (i + 1) n' after
-    settled_more =
+    one_more : SettledTo m k s (i + 1) n' after
+    one_more =
         let at : record_at after i ≡ new = get_or-set_same c.rows i new empty_record here in
         let off : (q : ℕ) → (q ≡ i → ⊥) → record_at after q ≡ record_at c q = λ q ne. get_or-set_other c.rows i q new empty_record ne in
         record {
@@ -147,6 +147,69 @@ module _ (m : Meaning) (k : Kept) (s : Story) (t : Tells m k s) where
           steps = h.steps;
           drains = drains_counted c.drains k.drains i (min 1 left) made drains row_done.3 (omega arith) (omega (arith, low)) (drains_small m k s t) h.drains counted;
         }
+
+  -- a row that the run does not use has no steps
+  module _ (i : ℕ) (n : Meaning) (c : Kept) (n' : Meaning) (new : RowRecord) (made drains : ℕ) (counted : drains ≡ (c.drains + made) % 18446744073709551616)
+      (u : m.facts.rows ≤ i) (low : i < 64) (long : length c.rows ≡ 64) (D : DrainedInto n i (record_at c i) made n' new) (h : SettledTo m k s m.facts.rows n c) where
+    idle : (n'.total i ≡ n.total i) × (n'.steps i ≡ 0) × (new.drained ≡ (record_at c i).drained) × (made ≡ 0)
+    idle = D.idle low ((h.rest i u).1 ∙ (t.unused i u low).0)
+
+    same : (a b : RowRecord) → a.drained ≡ b.drained → a.weight_sum ≡ b.weight_sum → a ≡ b
+    same a b d w = ap (λ (x : ℤ). record { drained = x; weight_sum = a.weight_sum }) d ∙ ap (λ (x : ℤ). record { drained = b.drained; weight_sum = x }) w
+
+    abbrev after_idle : Kept
+    after_idle = with_row c i new drains
+
+    kept_row : (q : ℕ) → record_at after_idle q ≡ record_at c q
+    kept_row q =
+        elim (cases_eq q i) [
+          | inl e ↦ subst (λ (j : ℕ). record_at after_idle j ≡ record_at c j) (sym e) (get_or-set_same c.rows i new empty_record (omega (arith, low, long)) ∙ same new (record_at c i) idle.2 D.weight_sum)
+          | inr ne ↦ get_or-set_other c.rows i q new empty_record ne
+        ]
+
+    total_same : (q : ℕ) → n'.total q ≡ n.total q
+    total_same q = elim (cases_eq q i) [ inl e ↦ subst (λ (j : ℕ). n'.total j ≡ n.total j) (sym e) idle.0 | inr ne ↦ D.others.total q ne ]
+
+    steps_same : (q : ℕ) → n'.steps q ≡ n.steps q
+    steps_same q =
+        elim (cases_eq q i) [
+          | inl e ↦ subst (λ (j : ℕ). n'.steps j ≡ n.steps j) (sym e) (idle.1 ∙ sym ((h.rest i u).1 ∙ (t.unused i u low).0))
+          | inr ne ↦ D.others.steps q ne
+        ]
+
+    none_more : SettledTo m k s m.facts.rows n' after_idle
+    none_more =
+        let few : c.drains ≤ 8388608 = omega (arith, h.drains, drains_small m k s t, m.facts.rows_rule.1, mul-le-mul {n₂ = 64} {m₂ = 1} m.facts.rows_rule.1 (one_at_most left)) in
+        record {
+          facts = D.others.facts ∙ h.facts;
+          done = λ q j. (
+            total_same q ∙ (h.done q j).0,
+            steps_same q ∙ (h.done q j).1,
+            ap (λ (x : RowRecord). x.drained) (kept_row q) ∙ (h.done q j).2,
+            ap (λ (x : RowRecord). x.weight_sum) (kept_row q) ∙ (h.done q j).3,
+          );
+          rest = λ q j. (total_same q ∙ (h.rest q j).0, steps_same q ∙ (h.rest q j).1, kept_row q ∙ (h.rest q j).2);
+          activation = h.activation;
+          accepted = h.accepted;
+          steps = h.steps;
+          drains = counted ∙ ap (λ (x : ℕ). (c.drains + x) % 18446744073709551616) idle.3 ∙ mod-eq_of_lt (omega (arith, few)) ∙ omega (arith, h.drains);
+        }
+
+  -- the rows that the run uses are settled as far as row i
+  pub settled_more : (i : ℕ) (n : Meaning) (c : Kept) (n' : Meaning) (new : RowRecord) (made drains : ℕ) → drains ≡ (c.drains + made) % 18446744073709551616
+      → i < 64 → length c.rows ≡ 64 → DrainedInto n i (record_at c i) made n' new → SettledTo m k s (min i m.facts.rows) n c
+      → SettledTo m k s (min (i + 1) m.facts.rows) n' (with_row c i new drains)
+  settled_more i n c n' new made drains counted low long D h =
+      elim (cases_lt i m.facts.rows) [
+        | inl l ↦
+            let here : min i m.facts.rows ≡ i = omega arith in
+            let next : i + 1 ≡ min (i + 1) m.facts.rows = omega arith in
+            subst (λ (j : ℕ). SettledTo m k s j n' (with_row c i new drains)) next (one_more i n c n' new made drains counted l long D (subst (λ (j : ℕ). SettledTo m k s j n c) here h))
+        | inr u ↦
+            let here : min i m.facts.rows ≡ m.facts.rows = omega arith in
+            let next : m.facts.rows ≡ min (i + 1) m.facts.rows = omega arith in
+            subst (λ (j : ℕ). SettledTo m k s j n' (with_row c i new drains)) next (none_more i n c n' new made drains counted u low long D (subst (λ (j : ℕ). SettledTo m k s j n c) here h))
+      ]
 
   pub settled_all : (n : Meaning) (c : Kept) (i : ℕ) → i ≡ m.facts.rows → SettledTo m k s i n c → TellsSettled n c (settled ∷ s)
   settled_all n c i i-is h =

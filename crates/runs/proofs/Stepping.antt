@@ -168,23 +168,14 @@ module _ (m n k : Meaning) (row : ℕ) (old new next : RowRecord) (gain : ℕ �
             (k.total row) next.drained (k.steps row) _ l s.0 s.1 s.2 e;
       }
 
-  pub stepped_more : RowStepped m row old gain (j + 1) ((made + more) % 18446744073709551616) k next
-  stepped_more =
-      subst (λ (i : ℕ). RowStepped m row old gain i ((made + more) % 18446744073709551616) k next) (sym (add-one j))
+  pub stepped_more : (j' : ℕ) → j' ≡ j + 1 → RowStepped m row old gain j' ((made + more) % 18446744073709551616) k next
+  stepped_more j' after =
+      subst (λ (i : ℕ). RowStepped m row old gain i ((made + more) % 18446744073709551616) k next) (sym (after ∙ add-one j))
       (elim (less_or (n.steps row) m.facts.interval R.room) [ inl l ↦ more_short l | inr l ↦ more_full l ])
 
--- the words of a group as the code cuts them, by the facts that were read
-pub group_gains : (unpacked : Shape → Unpacking) (f F G : Facts) (j count : ℕ) (weights activations : List ℕ) (gain : ℕ → ℤ) → f ≡ F → G ≡ F → j < count → Gains (unpacked F.shape) F weights activations count gain
-    → both_dot (unpacked G.shape Weights (take ((j * f.shape.weight_words + f.shape.weight_words) - j * f.shape.weight_words) (drop (j * f.shape.weight_words) weights)))
-    (unpacked G.shape Activations (take ((j * f.shape.activation_words + f.shape.activation_words) - j * f.shape.activation_words) (drop (j * f.shape.activation_words) activations)))
-    ≡ Some (gain j)
-group_gains unpacked f F G j count weights activations gain e h l gains =
-    let w : ℕ = f.shape.weight_words in
-    let a : ℕ = f.shape.activation_words in
-    let ws : (j * w + w) - j * w ≡ w = omega arith in
-    let as' : (j * a + a) - j * a ≡ a = omega arith in
-    ap (λ (x : Facts). both_dot (unpacked x.shape Weights (take ((j * w + w) - j * w) (drop (j * w) weights))) (unpacked x.shape Activations (take ((j * a + a) - j * a) (drop (j * a) activations)))) h
-    ∙ ap (λ i. both_dot (unpacked F.shape Weights (take i (drop (j * w) weights))) (unpacked F.shape Activations (take ((j * a + a) - j * a) (drop (j * a) activations)))) ws
-    ∙ ap (λ i. both_dot (unpacked F.shape Weights (take w (drop (j * w) weights))) (unpacked F.shape Activations (take i (drop (j * a) activations)))) as'
-    ∙ ap (λ (x : Facts). both_dot (unpacked F.shape Weights (group_words x.shape.weight_words weights j)) (unpacked F.shape Activations (group_words x.shape.activation_words activations j))) e
-    ∙ gains j l
+-- what the words of a group gain, by the facts of a kernel that are still the same
+pub group_gains : (unpacked : Shape → Unpacking) (F G : Facts) (j count : ℕ) (weights activations left right : List ℕ) (gain : ℕ → ℤ) → G ≡ F → left ≡ group_words F.shape.weight_words weights j → right ≡ group_words F.shape.activation_words activations j
+    → j < count → Gains (unpacked F.shape) F weights activations count gain → both_dot (unpacked G.shape Weights left) (unpacked G.shape Activations right) ≡ Some (gain j)
+group_gains unpacked F G j count weights activations left right gain h l r below gains =
+    ap (λ (x : Facts). both_dot (unpacked x.shape Weights left) (unpacked x.shape Activations right)) h ∙ ap (λ ws. both_dot (unpacked F.shape Weights ws) (unpacked F.shape Activations right)) l
+    ∙ ap (λ ws. both_dot (unpacked F.shape Weights (group_words F.shape.weight_words weights j)) (unpacked F.shape Activations ws)) r ∙ gains j below

@@ -17,11 +17,11 @@ use Rattle.kernels.specs.Meanings.{Meaning}
 use Rattle.kernels.proofs.ListSizes.{groups_few, groups_hold}
 use Rattle.runs.specs.declared.kept.Kept.{Kept}
 use Rattle.runs.specs.declared.kept.RowRecord.{RowRecord}
-use Rattle.runs.specs.declared.sums.CodeSums.{CodeSums}
+use Rattle.runs.specs.declared.checked.Columns.{Columns}
 use Rattle.runs.specs.Stories.{Story, fed, columns_of, steps_of, group_of, onto, open_groups, stretches, settled_drains, drains_of, since_drain}
 use Rattle.runs.specs.Feeds.{row_words, row_codes, codes_of, columns_with, feed_columns, ColumnWithin}
 use Rattle.runs.specs.Tells.{Tells, products, sum_of_weights, sum_of_activations, empty_record, record_at}
-use Rattle.runs.specs.Passes.{RowAt, RowFed, Gains, Checked}
+use Rattle.runs.specs.Passes.{RowAt, RowFed, Gains, Checked, Takes}
 use Rattle.runs.proofs.Bounds.{drained_fits, weights_fit, activations_fit}
 use Rattle.runs.proofs.Checking.{FeedFound, feed_found}
 use Rattle.runs.proofs.Columns.{count_is, columns_fit, row_gains, weight_sums, activation_sums}
@@ -79,6 +79,9 @@ pub record TakenTo (m : Meaning) (k : Kept) (s : Story) (columns : List Column) 
   pub steps : c.steps ≡ k.steps
   pub drains : c.drains ≡ k.drains + i * (length (open_groups m.facts.shape.group (fed columns ∷ s)) / m.facts.interval - length (open_groups m.facts.shape.group s) / m.facts.interval)
 
+pub taken_as : (m : Meaning) (k : Kept) (s : Story) (columns : List Column) (i j : ℕ) (n : Meaning) (c : Kept) → i ≡ j → TakenTo m k s columns i n c → TakenTo m k s columns j n c
+taken_as m k s columns i j n c e h = subst (λ (r : ℕ). TakenTo m k s columns r n c) e h
+
 lin_base : (x p : ℤ) → (x -ℤ p) +ℤ p ≡ x
 lin_base x p = omega (arith, ints)
 
@@ -101,7 +104,7 @@ abbrev all : List ℤ → ℤ
 all gains = sum_of (λ g. g) gains
 
 module _ (m : Meaning) (k : Kept) (s : Story) (t : Tells m k s) (packed : Packing) (u : Unpacking) (packs : Packs packed u m.facts.shape) (unpacks : Unpacks packed u m.facts.shape)
-    (n : ℕ) (weights activations : List ℕ) (sums : CodeSums) (C : Checked u m.facts k.accepted n weights activations (Ok sums)) where
+    (n : ℕ) (weights activations : List ℕ) (sums : Columns) (C : Checked u m.facts k.accepted n weights activations (Ok sums)) where
   abbrev size : ℕ
   size = m.facts.shape.group
 
@@ -211,7 +214,7 @@ module _ (m : Meaning) (k : Kept) (s : Story) (t : Tells m k s) (packed : Packin
   pub has_room : (i : ℕ) (n' : Meaning) (c : Kept) → i < m.facts.rows → TakenTo m k s cs i n' c → n'.steps i < n'.facts.interval
   has_room i n' c l h = omega (arith, (h.rest i (omega arith)).1, t.steps i l, mod-lt (length gs) {m = m.facts.interval} m.facts.interval_rule.0, ap (λ (x : Facts). x.interval) h.facts)
 
-  module _ (i : ℕ) (a : Meaning) (c : Kept) (b : Meaning) (new : RowRecord) (made drains : ℕ) (counted : drains ≡ (c.drains + made) % 18446744073709551616) (sum : ℤ) (count : ℕ) (l : i < m.facts.rows) (many : length c.rows ≡ 64) (sum_is_lem : sum ≡ get_or sums.weights i (pos 0))
+  module _ (i : ℕ) (a : Meaning) (c : Kept) (b : Meaning) (new : RowRecord) (made drains : ℕ) (counted : drains ≡ (c.drains + made) % 18446744073709551616) (sum : ℤ) (count : ℕ) (l : i < m.facts.rows) (many : length c.rows ≡ 64) (sum_is_lem : sum ≡ get_or sums.weight_sums i (pos 0))
       (count_same : count ≡ groups m.facts.shape.group n) (fed-row : RowFed a i (record_at c i) sum (λ j. products i (group_of m.facts.shape.group cs j)) count made b new) (h : TakenTo m k s cs i a c) where
     R : RowFed a i (record_at c i) sum (gain i) (groups m.facts.shape.group n) made b new
     R = subst (λ (x : ℕ). RowFed a i (record_at c i) sum (gain i) x made b new) count_same fed-row
@@ -269,7 +272,7 @@ module _ (m : Meaning) (k : Kept) (s : Story) (t : Tells m k s) (packed : Packin
 
   -- ---- all rows, and then the sums and counts of the run
 
-  module _ (a : Meaning) (c : Kept) (i : ℕ) (act : ℤ) (accepted steps : ℕ) (i-is : i ≡ m.facts.rows) (act-is : act ≡ int_wrap w64 (c.activation_sum +ℤ sums.activations))
+  module _ (a : Meaning) (c : Kept) (i : ℕ) (act : ℤ) (accepted steps : ℕ) (i-is : i ≡ m.facts.rows) (act-is : act ≡ int_wrap w64 (c.activation_sum +ℤ sums.activation_sum))
       (accepted-is : accepted ≡ (c.accepted + n) % 4294967296) (steps_are : steps ≡ (c.steps + m.facts.rows * groups m.facts.shape.group n) % 18446744073709551616) (h : TakenTo m k s cs i a c) where
     abbrev after_all : Kept
     after_all = record { rows = c.rows; activation_sum = act; accepted = accepted; steps = steps; drains = c.drains }
@@ -294,7 +297,7 @@ module _ (m : Meaning) (k : Kept) (s : Story) (t : Tells m k s) (packed : Packin
 
     all_activations : act ≡ sum_of_activations (cs ++ columns_of s)
     all_activations =
-        act-is ∙ ap (λ (y : ℤ). int_wrap w64 (y +ℤ sums.activations)) (h.activation ∙ t.activation)
+        act-is ∙ ap (λ (y : ℤ). int_wrap w64 (y +ℤ sums.activation_sum)) (h.activation ∙ t.activation)
         ∙ ap (λ (y : ℤ). int_wrap w64 (sum_of_activations (columns_of s) +ℤ y)) (C.1 ∙ ap (int_wrap w64) (activation_sums packed u m.facts packs unpacks k.accepted n weights activations found))
         ∙ int_wrap-add_right w64 (sum_of_activations (columns_of s)) (sum_of_activations cs) ∙ ap (int_wrap w64) (lin_plus (sum_of_activations (columns_of s)) (sum_of_activations cs) ∙ sym (sum_append _ cs (columns_of s)))
         ∙ int_wrap_fits w64 _ (activations_fit m.facts (cs ++ columns_of s) within few)
@@ -333,3 +336,10 @@ module _ (m : Meaning) (k : Kept) (s : Story) (t : Tells m k s) (packed : Packin
     pub taken_all : Tells a (record { rows = c.rows; activation_sum = act; accepted = accepted; steps = steps; drains = c.drains }) (fed (feed_columns u m.facts n weights activations) ∷ s)
     unfolding feed_columns
     taken_all = tells_fed
+
+-- a pass over columns that are those of a feed
+pub takes_given : (u : Unpacking) (columns : Columns) (n : ℕ) (weights activations : List ℕ) (m : Meaning) (k : Kept) (m' : Meaning) (k' : Kept) → columns.count ≡ n → columns.weights.now ≡ weights → columns.activations.now ≡ activations
+    → Takes u columns m k m' k' → Checked u m.facts k.accepted n weights activations (Ok columns) → (s : Story) → Tells m k s → Tells m' k' (fed (feed_columns u m.facts n weights activations) ∷ s)
+takes_given u columns n weights activations m k m' k' en ew ea h =
+    let P : ℕ → List ℕ → List ℕ → Type 0 = λ i ws as'. Checked u m.facts k.accepted i ws as' (Ok columns) → (s : Story) → Tells m k s → Tells m' k' (fed (feed_columns u m.facts i ws as') ∷ s) in
+    subst (λ i. P i weights activations) en (subst (λ ws. P columns.count ws activations) ew (subst (λ as'. P columns.count columns.weights.now as') ea h))

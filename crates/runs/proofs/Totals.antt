@@ -1,6 +1,8 @@
 -- The sums of the codes of a group, and of a list.
-use Rattle.std.proofs.Common.{◌≡◌, ℕ, ◌+◌, ◌%◌, ◌^◌, ◌<◌, ◌≤◌, Bool, true, false, cond, ◌||◌, ltb, List, [], ◌∷◌, ◌++◌, map, length, get_or, take, drop, ℤ, pos, negsuc, ◌+ℤ◌, Some, None, Ok, Err, Option, Result, sym, refl, ap, ◌∙◌, inl, inr, arith, w16, w64, SFits, to_z, of_z}
+use Rattle.std.proofs.Common.{◌≡◌, ℕ, ◌+◌, ◌%◌, ◌^◌, ◌<◌, ◌≤◌, Bool, true, false, cond, ◌||◌, ltb, List, [], ◌∷◌, ◌++◌, map, length, get_or, take, drop, ℤ, pos, negsuc, ◌+ℤ◌, Some, None, Ok, Err, Option, Result, sym, refl, ap, ◌∙◌, subst, inl, inr, arith, w16, w64, SFits, to_z, of_z}
 use Rattle.std.specs.Int.{int_wrap}
+use Rattle.std.specs.Option.{ok_or}
+use Rattle.std.specs.Result.{result_ok, MatchResult, IsErrAnd}
 use Rattle.std.proofs.lemmas.List.{take_more, take_all, take-append-drop}
 use Rattle.std.proofs.lemmas.Int.{ints, to_z-of_z, int_wrap_fits, int_wrap-add_left, int_wrap-add_right, wrapping_add_onto}
 use Rattle.std.proofs.lemmas.Bool.{cases_eq, and_parts, true≢false, ltb-false, le-ltb}
@@ -19,6 +21,36 @@ use Rattle.runs.specs.Passes.{codes_total, group_total, list_total}
 
 some_same : {X : Type 0} (x y : X) → Some x ≡ Some y → x ≡ y
 some_same x y e = cc
+
+-- ---- an answer that is taken for an option
+
+pub ok_some : {X E : Type 0} (r : Result X E) (x : X) → Some x ≡ result_ok r → Ok x ≡ r
+ok_some (Ok y) x h = ap Ok (some_same x y h)
+ok_some (Err e) x h = absurd (let z : ◌≡◌ {A = ℕ} 0 1 = cc in omega arith)
+
+pub ok_none : {X E : Type 0} (r : Result X E) → ◌≡◌ {A = Option X} None (result_ok r) → (e : E) × (Err e ≡ r)
+ok_none (Ok y) h = absurd (let z : ◌≡◌ {A = ℕ} 0 1 = cc in omega arith)
+ok_none (Err e) h = (e, refl)
+
+ok_same : {X E : Type 0} (x y : X) → ◌≡◌ {A = Result X E} (Ok x) (Ok y) → x ≡ y
+ok_same x y e = cc
+
+err_same : {X E : Type 0} (x y : E) → ◌≡◌ {A = Result X E} (Err x) (Err y) → x ≡ y
+err_same x y e = cc
+
+pub not_ok : {X E : Type 0} (o : Option X) (e d : E) → ◌≡◌ {A = Result X E} (Err d) (ok_or o e) → (o ≡ None) × (d ≡ e)
+not_ok {X} None e d h = (refl, err_same {X = X} d e h)
+not_ok (Some x) e d h = absurd (let z : ◌≡◌ {A = ℕ} 0 1 = cc in omega arith)
+
+-- an answer whose error is named anew
+pub err_named : {X E D : Type 0} {Q : E → D → Type 0} (make : E → D) (r : Result X E) (s : Result X D) (d : D) → s ≡ Err d → MatchResult r (λ x. s ≡ Ok x) (λ e. IsErrAnd s (Q e)) → ((e : E) (y : D) → Q e y → y ≡ make e)
+    → (e : E) × (r ≡ Err e) × (d ≡ make e)
+err_named make (Ok x) s d is h named = absurd (let e = sym h ∙ is in let z : ◌≡◌ {A = ℕ} 0 1 = cc in omega arith)
+err_named {X} {E} {D} {Q} make (Err e) s d is h named = (e, refl, named e d (subst (λ (x : Result X D). IsErrAnd x (Q e)) is h))
+
+pub ok_kept : {X E D : Type 0} (Q : E → D → Type 0) (r : Result X E) (s : Result X D) (x : X) → s ≡ Ok x → MatchResult r (λ y. s ≡ Ok y) (λ e. IsErrAnd s (Q e)) → r ≡ Ok x
+ok_kept {X} {E} {D} Q (Ok y) s x is h = ap Ok (ok_same {X = X} {E = D} y x (sym h ∙ is))
+ok_kept {X} {E} {D} Q (Err e) s x is h = absurd (subst (λ (y : Result X D). IsErrAnd y (Q e)) is h)
 
 -- ---- sums of lists
 
@@ -147,10 +179,11 @@ joined_bad g None r sum h = refl
 joined_bad g (Some codes) r sum h = absurd (let z : ◌≡◌ {A = ℕ} 0 1 = cc in omega arith)
 
 module _ (unpacked : List ℕ → Option (List ℤ)) (m w count n : ℕ) (words : List ℕ) where
-  pub total_more : (g : ℕ) (whole : Result ℤ ℕ) (sum sum' more : ℤ) → g < count → Some more ≡ group_total (group_at unpacked m w count n words g) → sum' ≡ int_wrap w64 (sum +ℤ more)
-      → on_total sum (rest_from unpacked m w count n words g) ≡ whole → on_total sum' (rest_from unpacked m w count n words (g + 1)) ≡ whole
-  total_more g whole sum sum' more l h e inv =
-      ap (λ z. on_total z (rest_from unpacked m w count n words (g + 1))) e
+  pub total_more : (g g' : ℕ) (whole : Result ℤ ℕ) (sum sum' more : ℤ) → g' ≡ g + 1 → g < count → Some more ≡ group_total (group_at unpacked m w count n words g) → sum' ≡ int_wrap w64 (sum +ℤ more)
+      → on_total sum (rest_from unpacked m w count n words g) ≡ whole → on_total sum' (rest_from unpacked m w count n words g') ≡ whole
+  total_more g g' whole sum sum' more next l h e inv =
+      ap (λ z. on_total z (rest_from unpacked m w count n words g')) e
+      ∙ ap (λ i. on_total (int_wrap w64 (sum +ℤ more)) (rest_from unpacked m w count n words i)) next
       ∙ sym (ap (on_total sum) (rest_more unpacked m w count n words g l) ∙ joined_total g (group_at unpacked m w count n words g) (rest_from unpacked m w count n words (g + 1)) sum more h)
       ∙ inv
 

@@ -11,10 +11,11 @@ use Rattle.kernels.specs.Meanings.{Meaning, OthersKept}
 use Rattle.kernels.specs.Lists.{unpacked_list}
 use Rattle.runs.specs.declared.kept.Kept.{Kept}
 use Rattle.runs.specs.declared.kept.RowRecord.{RowRecord}
-use Rattle.runs.specs.declared.sums.CodeSums.{CodeSums}
+use Rattle.runs.specs.declared.checked.Columns.{Columns}
 use Rattle.runs.specs.declared.refusal.FeedRefusal.{FeedRefusal}
+use Rattle.runs.specs.declared.refusal.FeedRefusal.TheVariants.{Weights as Bad}
 use Rattle.runs.specs.Stories.{Story, fed, onto}
-use Rattle.runs.specs.Feeds.{row_codes, first_bad_row, ask_sizes, feed_answer, feed_columns, codes_of}
+use Rattle.runs.specs.Feeds.{row_codes, first_bad_row, feed_answer, feed_columns, codes_of}
 use Rattle.runs.specs.Tells.{Tells}
 
 -- ---- sums of codes, as numbers of 64 bits with sign that may wrap
@@ -31,22 +32,17 @@ list_total (Ok codes) = Ok (codes_total codes)
 list_total (Err group) = Err group
 
 -- what the check of all rows finds: the sum of each row's codes, or the first bad group
-abbrev pub RowsTotal : (ℕ → Result (List ℤ) ℕ) → (rows : ℕ) → Result (List ℤ) (ℕ × ℕ) → Type 0
+abbrev pub RowsTotal : (ℕ → Result (List ℤ) ℕ) → (rows : ℕ) → Result (List ℤ) FeedRefusal → Type 0
 RowsTotal codes rows (Ok sums) = (first_bad_row codes rows ≡ None) × ((row : ℕ) → row < rows → slice_index_or sums row (pos 0) ≡ codes_total (codes_of (codes row)))
-RowsTotal codes rows (Err at) = first_bad_row codes rows ≡ Some at
+RowsTotal codes rows (Err e) = (at : ℕ × ℕ) × (first_bad_row codes rows ≡ Some at) × (e ≡ Bad at.0 at.1)
 
 -- what the check of a feed finds: the sums of its codes, or the first question that gets a no
-abbrev pub Checked : Unpacking → Facts → (accepted n : ℕ) → (weights activations : List ℕ) → Result CodeSums FeedRefusal → Type 0
-Checked unpacked f accepted n weights activations (Ok sums) =
+abbrev pub Checked : Unpacking → Facts → (accepted n : ℕ) → (weights activations : List ℕ) → Result Columns FeedRefusal → Type 0
+Checked unpacked f accepted n weights activations (Ok columns) =
     (feed_answer unpacked f accepted n weights activations ≡ Ok tt)
-    × (sums.activations ≡ codes_total (codes_of (unpacked_list unpacked f.shape Activations n activations)))
-    × ((row : ℕ) → row < f.rows → slice_index_or sums.weights row (pos 0) ≡ codes_total (codes_of (row_codes unpacked f.shape n weights row)))
+    × (columns.activation_sum ≡ codes_total (codes_of (unpacked_list unpacked f.shape Activations n activations)))
+    × ((row : ℕ) → row < f.rows → slice_index_or columns.weight_sums row (pos 0) ≡ codes_total (codes_of (row_codes unpacked f.shape n weights row)))
 Checked unpacked f accepted n weights activations (Err e) = feed_answer unpacked f accepted n weights activations ≡ Err e
-
--- a feed that passes has the right lengths
-abbrev pub Sized : Facts → (accepted n weights activations : ℕ) → Result CodeSums FeedRefusal → Type 0
-Sized f accepted n weights activations (Ok sums) = Ok tt ≡ ask_sizes f accepted n weights activations (Ok tt)
-Sized f accepted n weights activations (Err e) = Unit {0}
 
 -- ---- steps and drains of one row
 
@@ -116,10 +112,10 @@ FeedsRow unpacked m row old sum weights activations count made n new =
     → RowFed m row old sum gain count made n new
 
 -- the pass over the rows of a feed that was checked
-abbrev pub Takes : Unpacking → (n : ℕ) → (weights activations : List ℕ) → CodeSums → Meaning → Kept → Meaning → Kept → Type 0
-Takes unpacked n weights activations sums m k m' k' =
-    Checked unpacked m.facts k.accepted n weights activations (Ok sums)
-    → (s : Story) → Tells m k s → Tells m' k' (fed (feed_columns unpacked m.facts n weights activations) ∷ s)
+abbrev pub Takes : Unpacking → Columns → Meaning → Kept → Meaning → Kept → Type 0
+Takes unpacked columns m k m' k' =
+    Checked unpacked m.facts k.accepted columns.count columns.weights.now columns.activations.now (Ok columns)
+    → (s : Story) → Tells m k s → Tells m' k' (fed (feed_columns unpacked m.facts columns.count columns.weights.now columns.activations.now) ∷ s)
 
 -- ---- the sum that is read, in numbers of 64 bits with sign that may wrap on the way
 

@@ -1,7 +1,7 @@
 // Calls of a run, and what each answers.
 use crate::refusal::{FeedRefusal, ReadRefusal};
 
-#[derive(Clone, Copy)]
+#[derive(Clone, Copy, Debug, PartialEq, Eq)]
 pub enum Call<'a> {
     // The words of the weights, row after row, and of the activations of so many columns.
     Feed {
@@ -17,7 +17,7 @@ pub enum Call<'a> {
     Clear,
 }
 
-#[derive(Clone, Copy)]
+#[derive(Clone, Copy, Debug, PartialEq, Eq)]
 pub enum Answer {
     Fed,
     FeedRefused(FeedRefusal),

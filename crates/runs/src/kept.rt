@@ -50,9 +50,8 @@ impl Kept {
     pub(crate) fn clear(&mut self)
         ensures { self.new ≡ nothing_kept }
     {
-        for row in 0..64 {
-            let cleared = &mut self.rows[row];
-            cleared.clear();
+        for record in self.rows.iter_mut() {
+            record.clear();
         }
         self.activation_sum = 0;
         self.accepted = 0;

@@ -2,6 +2,7 @@
 #![tactic(auto)]
 
 pub mod calls;
+mod checked;
 mod feed;
 mod kept;
 pub mod planned;

@@ -3,7 +3,7 @@ ghost use Rattle.std.specs.Prelude.{◌≡◌};
 ghost use Rattle.runs.specs.Refusals.{feed_number, read_number};
 
 // Columns are not taken in.
-#[derive(Clone, Copy)]
+#[derive(Clone, Copy, Debug, PartialEq, Eq)]
 pub enum FeedRefusal {
     // No columns.
     NoColumns,
@@ -35,18 +35,16 @@ impl FeedRefusal {
 }
 
 // A row is not read.
-#[derive(Clone, Copy)]
+#[derive(Clone, Copy, Debug, PartialEq, Eq)]
 pub enum ReadRefusal {
     // The run has no such row.
-    Row,
+    Row = 41,
 }
 
 impl ReadRefusal {
     pub fn number(self) -> u8
         ensures { result ≡ read_number self }
     {
-        match self {
-            ReadRefusal::Row => 41,
-        }
+        self as u8
     }
 }

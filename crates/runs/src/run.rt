@@ -8,11 +8,11 @@ ghost use Rattle.runs.specs.Tells.{Tells, TellsSettled, nothing_kept, record_at}
 ghost use Rattle.runs.specs.Calls.{KeptIfRefused, Feeds, Settles, Reads};
 ghost use Rattle.runs.specs.Passes.{Takes, minus_product, plus_columns, corrected_sum};
 
+use crate::checked::Columns;
 use crate::feed::{drain_row, feed_row};
 use crate::kept::{Kept, accepted_with, counted, steps_of};
 use crate::refusal::{FeedRefusal, ReadRefusal};
-use crate::sums::{CodeSums, check};
-use codes::facts::Facts;
+use crate::sums::check;
 use codes::zero_points::ZeroPoints;
 use kernels::kernel::Kernel;
 use kernels::lists::groups_taken;
@@ -57,24 +57,14 @@ impl<K: Kernel> OpenRun<K> {
         ensures after { Feeds (K.Kernel.unpacked (K.Kernel.means self.old.kernel).facts.shape) count weights.now activations.now result (K.Kernel.means self.old.kernel) self.old.kept (K.Kernel.means self.new.kernel) self.new.kept }
         ensures packs { FeedPacks (K.Kernel.packed (K.Kernel.means self.old.kernel).facts.shape) (K.Kernel.means self.old.kernel).facts count weights.now activations.now (feed_columns (K.Kernel.unpacked (K.Kernel.means self.old.kernel).facts.shape) (K.Kernel.means self.old.kernel).facts count weights.now activations.now) result }
     {
-        let facts = self.kernel.facts();
-        let sums = check(
+        let columns = check(
             &self.kernel,
-            facts,
             self.kept.accepted,
             count,
             weights,
             activations,
         )?;
-        take_in(
-            &mut self.kernel,
-            facts,
-            &mut self.kept,
-            count,
-            weights,
-            activations,
-            &sums,
-        );
+        take_in(&mut self.kernel, &mut self.kept, &columns);
         Ok(())
     }
 
@@ -86,9 +76,8 @@ impl<K: Kernel> OpenRun<K> {
             mut kernel,
             mut kept,
         } = self;
-        let rows = kernel.facts().rows;
-        for row in 0..rows {
-            let made = drain_row(&mut kernel, row, &mut kept.rows[row]);
+        for (row, record) in kept.rows.iter_mut().enumerate() {
+            let made = drain_row(&mut kernel, row, record);
             kept.drains = counted(kept.drains, made);
         }
         SettledRun { kernel, kept }
@@ -104,10 +93,9 @@ impl<K: Kernel> SettledRun<K> {
         if row >= facts.rows {
             return Err(ReadRefusal::Row);
         }
-        match i32::try_from(corrected_sum(&self.kept, row, facts.zeros)) {
-            Ok(sum) => Ok((sum, self.kept.steps, self.kept.drains)),
-            Err(_) => Ok((0, self.kept.steps, self.kept.drains)),
-        }
+        // The sum of a settled run fits.
+        let sum = i32::try_from(corrected_sum(&self.kept, row, facts.zeros)).unwrap_or(0);
+        Ok((sum, self.kept.steps, self.kept.drains))
     }
 
     // Goes on with all sums kept.
@@ -132,40 +120,23 @@ impl<K: Kernel> SettledRun<K> {
 }
 
 // The pass over the rows of a feed that was checked: each row takes one step a group.
-fn take_in<K: Kernel>(
-    kernel: &mut K,
-    facts: Facts,
-    kept: &mut Kept,
-    count: usize,
-    weights: &[u16],
-    activations: &[u16],
-    sums: &CodeSums,
-)
-    requires few { count ≤ 65536 }
-    requires weights { length weights.now ≡ facts.rows * words_for facts.shape Weights count }
-    requires activations { length activations.now ≡ words_for facts.shape Activations count }
+fn take_in<K: Kernel>(kernel: &mut K, kept: &mut Kept, columns: &Columns)
     ensures facts { (K.Kernel.means kernel.new).facts ≡ (K.Kernel.means kernel.old).facts }
-    ensures after { facts ≡ (K.Kernel.means kernel.old).facts → Takes (K.Kernel.unpacked (K.Kernel.means kernel.old).facts.shape) count weights.now activations.now sums.now (K.Kernel.means kernel.old) kept.old (K.Kernel.means kernel.new) kept.new }
+    ensures after { Takes (K.Kernel.unpacked (K.Kernel.means kernel.old).facts.shape) columns.now (K.Kernel.means kernel.old) kept.old (K.Kernel.means kernel.new) kept.new }
 {
-    let groups = groups_taken(facts, count);
-    let size = groups * facts.shape.weight_words;
-    for row in 0..facts.rows {
-        let start = row * size;
-        let part = &weights[start..start + size];
-        let made = feed_row(
-            kernel,
-            facts,
-            row,
-            &mut kept.rows[row],
-            sums.weights[row],
-            part,
-            activations,
-            groups,
-        );
+    let facts = kernel.facts();
+    let groups = groups_taken(facts, columns.count);
+    let parts = columns
+        .weights
+        .chunks_exact(groups * facts.shape.weight_words);
+    for (row, weights) in (0..facts.rows).zip(parts) {
+        let sum = columns.weight_sums[row];
+        let record = &mut kept.rows[row];
+        let made = feed_row(kernel, row, record, sum, weights, columns.activations);
         kept.drains = counted(kept.drains, made);
     }
-    kept.activation_sum = kept.activation_sum.wrapping_add(sums.activations);
-    kept.accepted = accepted_with(kept.accepted, count);
+    kept.activation_sum = kept.activation_sum.wrapping_add(columns.activation_sum);
+    kept.accepted = accepted_with(kept.accepted, columns.count);
     kept.steps = counted(kept.steps, steps_of(facts.rows, groups));
 }
 

@@ -1,99 +1,115 @@
 -- Row after row takes the columns in, and then the run counts them.
-use Rattle.std.proofs.Common.{◌≡◌, ℕ, ◌+◌, ◌*◌, ◌%◌, ◌<◌, ◌≤◌, get_or, pos, sym, ap, ◌∙◌, arith, length-set, w64, SFits, rules}
+use Rattle.std.proofs.Common.{◌≡◌, ℕ, ◌+◌, ◌*◌, ◌%◌, ◌<◌, ◌≤◌, length, get_or, pos, sym, refl, ap, ◌∙◌, arith, length-set, w64, SFits, rules}
+use Rattle.std.specs.Iterator.Adapters.{zip_first, zip_second}
+use Rattle.std.specs.Slice.Iter.{chunks_exact_rest, chunks_exact_size}
 use Rattle.std.proofs.lemmas.Int.{to_z-of_z, wrapping_add_is}
+use Rattle.std.proofs.lemmas.List.{length_push}
 use Rattle.codes.specs.declared.facts.Facts.{Facts}
 use Rattle.codes.specs.declared.side.Side.TheVariants.{Weights}
 use Rattle.codes.specs.Codes.{groups}
 use Rattle.kernels.specs.Lists.{words_for}
-use Rattle.runs.proofs.Rows.{rows_few, row_ends, row_part}
-use Rattle.runs.proofs.Taking.{gains, gains_as, has_room, taken_none, taken_more, taken_all}
+use Rattle.kernels.proofs.ListSizes.{groups_few}
+use Rattle.runs.specs.Passes.{group_words}
+use Rattle.runs.proofs.Chunks.{row_turn, row_end}
+use Rattle.runs.proofs.Checking.{feed_found}
+use Rattle.runs.proofs.Rows.{row_some}
+use Rattle.runs.proofs.Taking.{gains, gains_as, taken_as, has_room, taken_none, taken_more, taken_all}
 use Rattle.runs.proofs.run.take_in.Goals as goal
 
--- the words of the rows before this one, and of this one, are few
-row_few : (f : Facts) (n count row : ℕ) → n ≤ 65536 → count ≤ n → row < f.rows → row * (count * f.shape.weight_words) + count * f.shape.weight_words ≤ 33554432
-row_few f n count row few groups l =
-    let p = row_ends row f.rows (count * f.shape.weight_words) l in
-    let q = rows_few f.rows count f.shape.weight_words f.rows_rule.1 (omega arith) f.shape_rules.3.0.1 in
-    omega (arith, p, q)
+pub offset_bounds-columns-row : goal.offset_bounds-columns-row
+offset_bounds-columns-row g c =
+    let f = c.facts-facts.result in
+    let t = row_turn c.args.columns.now.weights.now (c.groups_taken-groups.result * f.shape.weight_words) f.rows c.loop-row.yielded _ c.zip-row-items.result c.into_iter-row-iterator.result c.loop-row.row-iterator c.next.new.self
+    c.zip-row-items.ensures.first c.zip-row-items.ensures.second c.chunks_exact-parts.ensures.rest c.chunks_exact-parts.ensures.size c.into_iter-row-iterator.ensures.into_iter_gives c.loop-row.yielded_by c.in-Some.row c.in-Some.weights c.in-Some.ensures.steps in
+    record { fits = omega (arith, t.row_is, t.below, f.rows_rule.1) }
 
-pub overflow_mul-start : goal.overflow_mul-start
-overflow_mul-start g c =
-    let q = row_few c.args.facts c.args.count c.groups_taken-groups.result c.loop-row.row c.requires.few c.groups_taken-groups.ensures.few c.loop-row-test.true in
-    record { fits = omega (arith, q) }
+pub bounds-columns-row : goal.bounds-columns-row
+bounds-columns-row g c =
+    let f = c.facts-facts.result in
+    let t = row_turn c.args.columns.now.weights.now (c.groups_taken-groups.result * f.shape.weight_words) f.rows c.loop-row.yielded _ c.zip-row-items.result c.into_iter-row-iterator.result c.loop-row.row-iterator c.next.new.self
+    c.zip-row-items.ensures.first c.zip-row-items.ensures.second c.chunks_exact-parts.ensures.rest c.chunks_exact-parts.ensures.size c.into_iter-row-iterator.ensures.into_iter_gives c.loop-row.yielded_by c.in-Some.row c.in-Some.weights c.in-Some.ensures.steps in
+    omega (arith, t.row_is, t.below, f.rows_rule.1)
 
-pub overflow_add-part : goal.overflow_add-part
-overflow_add-part g c =
-    let q = row_few c.args.facts c.args.count c.groups_taken-groups.result c.loop-row.row c.requires.few c.groups_taken-groups.ensures.few c.loop-row-test.true in
-    record { fits = omega (arith, q) }
+pub offset_bounds-kept-row : goal.offset_bounds-kept-row
+offset_bounds-kept-row g c =
+    let f = c.facts-facts.result in
+    let t = row_turn c.args.columns.now.weights.now (c.groups_taken-groups.result * f.shape.weight_words) f.rows c.loop-row.yielded _ c.zip-row-items.result c.into_iter-row-iterator.result c.loop-row.row-iterator c.next.new.self
+    c.zip-row-items.ensures.first c.zip-row-items.ensures.second c.chunks_exact-parts.ensures.rest c.chunks_exact-parts.ensures.size c.into_iter-row-iterator.ensures.into_iter_gives c.loop-row.yielded_by c.in-Some.row c.in-Some.weights c.in-Some.ensures.steps in
+    record { fits = omega (arith, t.row_is, t.below, f.rows_rule.1) }
 
-pub offset_bounds-weights-start : goal.offset_bounds-weights-start
-offset_bounds-weights-start g c =
-    let q = row_few c.args.facts c.args.count c.groups_taken-groups.result c.loop-row.row c.requires.few c.groups_taken-groups.ensures.few c.loop-row-test.true in
-    record { fits = omega (arith, q) }
-
-pub slice_bounds-part-end : goal.slice_bounds-part-end
-slice_bounds-part-end g c =
-    let f = c.args.facts in
-    let p = row_ends c.loop-row.row f.rows (c.groups_taken-groups.result * f.shape.weight_words) c.loop-row-test.true in
-    let e : f.rows * (c.groups_taken-groups.result * f.shape.weight_words) ≡ f.rows * words_for f.shape Weights c.args.count = ap (λ x. f.rows * (x * f.shape.weight_words)) c.groups_taken-groups.ensures.value in
-    omega (arith, p, e, c.requires.weights)
+pub bounds-kept-row : goal.bounds-kept-row
+bounds-kept-row g c =
+    let f = c.facts-facts.result in
+    let t = row_turn c.args.columns.now.weights.now (c.groups_taken-groups.result * f.shape.weight_words) f.rows c.loop-row.yielded _ c.zip-row-items.result c.into_iter-row-iterator.result c.loop-row.row-iterator c.next.new.self
+    c.zip-row-items.ensures.first c.zip-row-items.ensures.second c.chunks_exact-parts.ensures.rest c.chunks_exact-parts.ensures.size c.into_iter-row-iterator.ensures.into_iter_gives c.loop-row.yielded_by c.in-Some.row c.in-Some.weights c.in-Some.ensures.steps in
+    omega (arith, t.row_is, t.below, f.rows_rule.1)
 
 pub loop-row-preserved : goal.loop-row-preserved
 loop-row-preserved g c =
     let I = c.loop-row.invariant in
-    let h = c.feed_row-made.ensures in (
+    let h = c.feed_row-made.ensures in
+    let f = c.facts-facts.result in
+    let F : Facts = (g.K.Kernel.means c.args.kernel.now).facts in
+    let n = c.args.columns.now.count in
+    let e = c.facts-facts.ensures in
+    let count_is : c.groups_taken-groups.result ≡ groups F.shape.group n = c.groups_taken-groups.ensures.value ∙ ap (λ (x : Facts). groups x.shape.group n) e in
+    let size_is : c.groups_taken-groups.result * f.shape.weight_words ≡ words_for F.shape Weights n = ap (λ x. x * f.shape.weight_words) c.groups_taken-groups.ensures.value ∙ ap (λ (x : Facts). words_for x.shape Weights n) e in
+    let t = row_turn c.args.columns.now.weights.now (c.groups_taken-groups.result * f.shape.weight_words) f.rows c.loop-row.yielded _ c.zip-row-items.result c.into_iter-row-iterator.result c.loop-row.row-iterator c.next.new.self
+    c.zip-row-items.ensures.first c.zip-row-items.ensures.second c.chunks_exact-parts.ensures.rest c.chunks_exact-parts.ensures.size c.into_iter-row-iterator.ensures.into_iter_gives c.loop-row.yielded_by c.in-Some.row c.in-Some.weights c.in-Some.ensures.steps in (
       simp length-set I.0,
       h.facts ∙ I.1,
-      λ e C s t start.
+      λ C s told start.
           let k = c.args.kernel.now in
           let m = g.K.Kernel.means k in
-          let F : Facts = (g.K.Kernel.means k).facts in
-          let f = c.args.facts in
           let kept = c.args.kept.now in
-          let n = c.args.count in
-          let weights = c.args.weights.now in
-          let activations = c.args.activations.now in
-          let sums = c.args.sums.now in
-          let row = c.loop-row.row in
+          let weights = c.args.columns.now.weights.now in
+          let activations = c.args.columns.now.activations.now in
+          let row : ℕ = c.in-Some.row in
           let p = g.K.Kernel.packed F.shape in
           let u = g.K.Kernel.unpacked F.shape in
           let packs = g.met.K.Kernel.packs k in
           let unpacks = g.met.K.Kernel.unpacks k in
-          let T = I.2 e C s t start in
-          let same = I.1 in
-          let l : c.loop-row.row < F.rows = omega (arith, c.loop-row-test.true, ap (λ (x : Facts). x.rows) e) in
-          let count_is : c.groups_taken-groups.result ≡ groups F.shape.group c.args.count = c.groups_taken-groups.ensures.value ∙ ap (λ (x : Facts). groups x.shape.group n) e in
-          let size_is = ap (λ x. x * f.shape.weight_words) c.groups_taken-groups.ensures.value in
-          let G = gains m kept s t p u packs unpacks n weights activations sums C row _ l (row_part f F n (c.groups_taken-groups.result * f.shape.weight_words) row weights size_is e) in
-          let R = h.after (e ∙ sym same) _ (gains_as g.K.Kernel.unpacked _ F c.groups_taken-groups.result _ _ activations _ same count_is G) (omega (arith, l, F.rows_rule.1)) (omega (arith, c.groups_taken-groups.ensures.few, c.requires.few))
-          (has_room m kept s t p u packs unpacks n weights activations sums C row _ c.loop-row.kept l T) in
-          let fits : SFits w64 (get_or c.args.sums.now.weights c.loop-row.row (pos 0)) = search rules in
-          taken_more m kept s t p u packs unpacks n weights activations sums C row _ c.loop-row.kept _ c.feed_row-made.new.kept c.feed_row-made.result c.counted-kept.result c.counted-kept.ensures _ c.groups_taken-groups.result l I.0
-          (to_z-of_z w64 (get_or c.args.sums.now.weights c.loop-row.row (pos 0)) fits) count_is R T,
+          let T = taken_as m kept s _ _ row _ c.loop-row.kept (sym t.row_is) (I.2 C s told start) in
+          let found = feed_found u F kept.accepted n weights activations C.0 in
+          let l : c.in-Some.row < F.rows = omega (arith, t.row_is, t.below, ap (λ (x : Facts). x.rows) e) in
+          let part_is = t.part_is ∙ ap (λ w. group_words w weights (length c.loop-row.yielded)) size_is ∙ ap (group_words (words_for F.shape Weights n) weights) (sym t.row_is) in
+          let G = gains m kept s told p u packs unpacks n weights activations c.args.columns.now C row c.in-Some.weights.now l part_is in
+          let R = h.after (groups F.shape.group n) (t.long ∙ size_is ∙ ap (λ (x : Facts). groups F.shape.group n * x.shape.weight_words) (sym I.1))
+          (found.sizes.activation_words ∙ ap (λ (x : Facts). groups F.shape.group n * x.shape.activation_words) (sym I.1)) _ (gains_as g.K.Kernel.unpacked _ F _ _ _ activations _ I.1 refl G) (omega (arith, l, F.rows_rule.1))
+          (omega (arith, groups_few F.shape.group n F.shape_rules.2.0, found.sizes.few, F.longest_rule.1)) (has_room m kept s told p u packs unpacks n weights activations c.args.columns.now C row _ c.loop-row.kept l T) in
+          let fits : SFits w64 (get_or c.args.columns.now.weight_sums c.in-Some.row (pos 0)) = search rules in
+          taken_as m kept s _ (row + 1) _ _ _ (ap (λ i. i + 1) t.row_is ∙ sym (length_push c.loop-row.yielded (c.in-Some.row, c.in-Some.weights)))
+          (taken_more m kept s told p u packs unpacks n weights activations c.args.columns.now C row _ c.loop-row.kept _ c.feed_row-made.new.kept c.feed_row-made.result c.counted-kept.result c.counted-kept.ensures _ _ l I.0
+          (to_z-of_z w64 (get_or c.args.columns.now.weight_sums c.in-Some.row (pos 0)) fits) refl R T),
     )
 
-pub returns : goal.returns
-returns g c =
-    let I = c.loop-row.invariant in
+pub returns-clause-after : goal.returns-clause-after
+returns-clause-after g c = λ C s told.
+    let k = c.args.kernel.now in
+    let m = g.K.Kernel.means k in
+    let F : Facts = (g.K.Kernel.means k).facts in
+    let f = c.facts-facts.result in
+    let e = c.facts-facts.ensures in
+    let kept = c.args.kept.now in
+    let n = c.args.columns.now.count in
+    let weights = c.args.columns.now.weights.now in
+    let activations = c.args.columns.now.activations.now in
+    let p = g.K.Kernel.packed F.shape in
+    let u = g.K.Kernel.unpacked F.shape in
+    let packs = g.met.K.Kernel.packs k in
+    let unpacks = g.met.K.Kernel.unpacks k in
     let fa : SFits w64 c.loop-row.kept.activation_sum = search rules in
-    let fb : SFits w64 c.args.sums.now.activations = search rules in
-    record {
-      facts = I.1;
-      after = λ e C s t.
-          let k = c.args.kernel.now in
-          let m = g.K.Kernel.means k in
-          let F : Facts = (g.K.Kernel.means k).facts in
-          let n = c.args.count in
-          let rows_are : c.args.facts.rows ≡ F.rows = ap (λ (x : Facts). x.rows) e in
-          let p = g.K.Kernel.packed F.shape in
-          let u = g.K.Kernel.unpacked F.shape in
-          let packs = g.met.K.Kernel.packs k in
-          let unpacks = g.met.K.Kernel.unpacks k in
-          let start = taken_none m c.args.kept.now s t p u packs unpacks n c.args.weights.now c.args.activations.now c.args.sums.now C in
-          let steps_are =
-          c.counted-kept-2.ensures ∙ ap (λ (x : ℕ). (c.loop-row.kept.steps + x) % 18446744073709551616) c.steps_of.ensures
-          ∙ ap (λ (x : ℕ). (c.loop-row.kept.steps + c.args.facts.rows * x) % 18446744073709551616) c.groups_taken-groups.ensures.value
-          ∙ ap (λ (x : Facts). (c.loop-row.kept.steps + x.rows * groups x.shape.group n) % 18446744073709551616) e in
-          taken_all m c.args.kept.now s t p u packs unpacks n c.args.weights.now c.args.activations.now c.args.sums.now C _
-          c.loop-row.kept c.loop-row.row _ _ _ (omega (arith, c.loop-row-test.false, c.loop-row.auto.row-end, rows_are)) (wrapping_add_is w64 _ _ fa fb) c.accepted_with-kept.ensures steps_are (I.2 e C s t start);
-    }
+    let fb : SFits w64 c.args.columns.now.activation_sum = search rules in
+    let found = feed_found u F kept.accepted n weights activations C.0 in
+    let size_is : c.groups_taken-groups.result * f.shape.weight_words ≡ words_for F.shape Weights n = ap (λ x. x * f.shape.weight_words) c.groups_taken-groups.ensures.value ∙ ap (λ (x : Facts). words_for x.shape Weights n) e in
+    let exact = found.sizes.weight_words ∙ ap (λ (x : Facts). x.rows * words_for F.shape Weights n) (sym e) ∙ ap (λ w. f.rows * w) (sym size_is) in
+    let all = row_end c.args.columns.now.weights.now (c.groups_taken-groups.result * f.shape.weight_words) f.rows c.loop-row.yielded _ c.zip-row-items.result c.into_iter-row-iterator.result c.loop-row.row-iterator c.next.new.self
+    c.zip-row-items.ensures.first c.zip-row-items.ensures.second c.chunks_exact-parts.ensures.rest c.chunks_exact-parts.ensures.size c.into_iter-row-iterator.ensures.into_iter_gives c.loop-row.yielded_by exact
+    (omega (arith, size_is, row_some F n c.args.columns.now.few.0)) c.in-None.ensures.steps in
+    let start = taken_none m kept s told p u packs unpacks n weights activations c.args.columns.now C in
+    let steps_are =
+    c.counted-kept-2.ensures ∙ ap (λ (x : ℕ). (c.loop-row.kept.steps + x) % 18446744073709551616) c.steps_of.ensures
+    ∙ ap (λ (x : ℕ). (c.loop-row.kept.steps + c.facts-facts.result.rows * x) % 18446744073709551616) c.groups_taken-groups.ensures.value
+    ∙ ap (λ (x : Facts). (c.loop-row.kept.steps + x.rows * groups x.shape.group n) % 18446744073709551616) e in
+    taken_all m kept s told p u packs unpacks n weights activations c.args.columns.now C _
+    c.loop-row.kept (length c.loop-row.yielded) _ _ _ (all ∙ ap (λ (x : Facts). x.rows) e) (wrapping_add_is w64 _ _ fa fb) c.accepted_with-kept.ensures steps_are (c.loop-row.invariant.2 C s told start)

@@ -11,14 +11,16 @@ use Rattle.runs.proofs.run.take_in.Given as goal
 
 abbrev pub invariant-loop-row : goal.invariant-loop-row
 invariant-loop-row g l =
+    let m = g.K.Kernel.means l.initial.kernel in
     let F = (g.K.Kernel.means l.initial.kernel).facts in
     let u = g.K.Kernel.unpacked (g.K.Kernel.means l.initial.kernel).facts.shape in
+    let n = l.columns.count in
+    let ws = l.columns.weights.now in
+    let as' = l.columns.activations.now in
+    let cs = columns_with F.rows n (λ row. codes_of (row_codes u F.shape n ws row)) (codes_of (unpacked_list u F.shape Activations n as')) in
     (length l.kept.rows ≡ 64)
-    × ((g.K.Kernel.means l.kernel).facts ≡ (g.K.Kernel.means l.initial.kernel).facts)
-    × (l.facts ≡ (g.K.Kernel.means l.initial.kernel).facts
-    → Checked u F l.initial.kept.accepted l.count l.weights l.activations (Ok l.sums)
-    → (s : Story) → Tells (g.K.Kernel.means l.initial.kernel) l.initial.kept s
-    → TakenTo (g.K.Kernel.means l.initial.kernel) l.initial.kept s
-    (columns_with F.rows l.count (λ row. codes_of (row_codes u F.shape l.count l.weights row)) (codes_of (unpacked_list u F.shape Activations l.count l.activations))) 0 (g.K.Kernel.means l.initial.kernel) l.initial.kept
-    → TakenTo (g.K.Kernel.means l.initial.kernel) l.initial.kept s
-    (columns_with F.rows l.count (λ row. codes_of (row_codes u F.shape l.count l.weights row)) (codes_of (unpacked_list u F.shape Activations l.count l.activations))) l.row (g.K.Kernel.means l.kernel) l.kept)
+    × ((g.K.Kernel.means l.kernel).facts ≡ F)
+    × (Checked u F l.initial.kept.accepted n ws as' (Ok l.columns)
+    → (s : Story) → Tells m l.initial.kept s
+    → TakenTo m l.initial.kept s cs 0 m l.initial.kept
+    → TakenTo m l.initial.kept s cs (length l.yielded) (g.K.Kernel.means l.kernel) l.kept)

@@ -1,28 +1,31 @@
 -- Row after row is drained.
-use Rattle.std.proofs.Common.{ap, ◌∙◌, arith, length-set}
-use Rattle.codes.specs.declared.facts.Facts.{Facts}
-use Rattle.runs.proofs.Settling.{settled_none, settled_more, settled_all}
+use Rattle.std.proofs.Common.{◌≡◌, ℕ, min, ◌∙◌, subst, sym, arith, length-set}
+use Rattle.runs.proofs.Settling.{SettledTo, with_rows, settled_none, settled_more, settled_all}
 use Rattle.runs.proofs.run.OpenRun.settle.Goals as goal
 
 pub loop-row-preserved : goal.loop-row-preserved
 loop-row-preserved g c =
-    let long = c.loop-row.invariant.0 in (
-      simp length-set long,
-      let I = c.loop-row.invariant.1 in
-          let D = c.drain_row-made.ensures.after in (
-            D.others.facts ∙ I.0,
-            λ s t l start. settled_more _ _ s t c.loop-row.row _ c.loop-row.kept _ c.drain_row-made.new.kept c.drain_row-made.result c.counted.result c.counted.ensures (omega arith) long D (I.1 s t (omega arith) start),
-          ),
+    let long = c.loop-row.invariant.0 in
+    let I = c.loop-row.invariant.1 in
+    let D = c.drain_row-made.ensures.after in (
+      length-set c.loop-row.record-items c.loop-row.row c.drain_row-made.new.kept ∙ long,
+      (
+        D.others.facts ∙ I.0,
+        λ s t start. settled_more _ _ s t c.loop-row.row _ (with_rows c.args.self.kept c.loop-row.record-items c.loop-row.kept.1.1.1.1.0) _ c.drain_row-made.new.kept c.drain_row-made.result c.counted-kept.result c.counted-kept.ensures c.loop-row-test.true long D (I.1 s t start),
+      ),
     )
 
 pub returns : goal.returns
 returns g c =
+    let m = g.K.Kernel.means c.args.self.kernel in
+    let kept = c.args.self.kept in
+    let now = with_rows c.args.self.kept c.loop-row.record-items c.loop-row.kept.1.1.1.1.0 in
     record {
       after = let I = c.loop-row.invariant.1 in
-          let rows_are = ap (λ (f : Facts). f.rows) c.facts-rows.ensures in
           record {
             facts = I.0;
             story = λ s t.
-                settled_all _ _ s t _ c.loop-row.kept c.loop-row.row (omega (arith, c.loop-row-test.false, c.loop-row.auto.row-end, rows_are)) (I.1 s t (omega (arith, c.loop-row.auto.row-end, rows_are)) (settled_none _ _ s t));
+                let all : min c.loop-row.row m.facts.rows ≡ m.facts.rows = omega (arith, c.loop-row-test.false, m.facts.rows_rule.1) in
+                settled_all _ _ s t _ now _ all (I.1 s t (settled_none _ _ s t));
           };
     }
