@@ -1,0 +1,139 @@
+// What a console answers to a line.
+ghost use Rattle.std.specs.Prelude.{Some};
+ghost use Rattle.std.specs.Fmt.{WritesOnOk, DisplaysOnOk, option_append};
+ghost use Rattle.replies.specs.Texts.{reply_text, facts_text, ends_text, limits_text};
+ghost use Rattle.replies.specs.Lists.{items_output};
+
+use codes::facts::Facts;
+use std::fmt;
+
+#[derive(Drop)]
+pub enum Reply {
+    // A plan is accepted, with the most steps between drains.
+    Accepted {
+        interval: u32,
+    },
+    // A refusal by its number, with no place, with one, or with a row and a group.
+    Refused {
+        number: u8,
+    },
+    RefusedAt {
+        number: u8,
+        place: usize,
+    },
+    RefusedInRow {
+        number: u8,
+        row: usize,
+        group: usize,
+    },
+    Facts(Facts),
+    Words(Vec<u16>),
+    Codes(Vec<i16>),
+    Stepped,
+    Steps(u32),
+    Total(i64),
+    Opened,
+    Fed,
+    Settled,
+    Sum {
+        sum: i32,
+        steps: u64,
+        drains: u64,
+    },
+    Resumed,
+    Cleared,
+    Misplaced,
+    // What the line with this number should have been.
+    Expected {
+        line: u64,
+        what: &'static str,
+    },
+}
+
+impl fmt::Display for Reply {
+    ghost output = { λ reply. Some (reply_text reply) };
+
+    fn fmt<W: fmt::Write>(&self, f: &mut fmt::Formatter<W>) -> fmt::Result {
+        match self {
+            Reply::Accepted { interval } => write!(f, "accepted interval {interval}"),
+            Reply::Refused { number } => write!(f, "refused {number}"),
+            Reply::RefusedAt { number, place } => write!(f, "refused {number} {place}"),
+            Reply::RefusedInRow { number, row, group } => write!(
+                f,
+                "refused {number} {row} {group}"
+            ),
+            Reply::Facts(facts) => write_facts(f, facts),
+            Reply::Words(words) => write_list(f, "words", words.as_slice()),
+            Reply::Codes(codes) => write_list(f, "codes", codes.as_slice()),
+            Reply::Stepped => f.write_str("stepped"),
+            Reply::Steps(steps) => write!(f, "steps {steps}"),
+            Reply::Total(total) => write!(f, "total {total}"),
+            Reply::Opened => f.write_str("opened"),
+            Reply::Fed => f.write_str("fed"),
+            Reply::Settled => f.write_str("settled"),
+            Reply::Sum { sum, steps, drains } => write!(
+                f,
+                "sum {sum} steps {steps} drains {drains}"
+            ),
+            Reply::Resumed => f.write_str("resumed"),
+            Reply::Cleared => f.write_str("cleared"),
+            Reply::Misplaced => f.write_str("misplaced"),
+            Reply::Expected { line, what } => write!(f, "error {line} expected {what}"),
+        }
+    }
+}
+
+fn write_facts<W: fmt::Write>(f: &mut fmt::Formatter<W>, facts: &Facts) -> fmt::Result
+    ensures { WritesOnOk W.write_str_gives f.old result (facts_text facts.now) f.new }
+{
+    write_ends(f, facts)?;
+    write_limits(f, facts)
+}
+
+fn write_ends<W: fmt::Write>(f: &mut fmt::Formatter<W>, facts: &Facts) -> fmt::Result
+    ensures { WritesOnOk W.write_str_gives f.old result (ends_text facts.now.shape) f.new }
+{
+    let weights = facts.shape.weight_ends;
+    let activations = facts.shape.activation_ends;
+    write!(
+        f,
+        "ends {} {} {} {}",
+        weights.low, weights.high, activations.low, activations.high
+    )
+}
+
+fn write_limits<W: fmt::Write>(f: &mut fmt::Formatter<W>, facts: &Facts) -> fmt::Result
+    ensures { WritesOnOk W.write_str_gives f.old result (limits_text facts.now) f.new }
+{
+    let shape = facts.shape;
+    write!(
+        f,
+        " group {} words {} {}",
+        shape.group, shape.weight_words, shape.activation_words
+    )?;
+    write!(
+        f,
+        " interval {} rows {} longest {}",
+        facts.interval, facts.rows, facts.longest
+    )?;
+    write!(
+        f,
+        " zeros {} {}",
+        facts.zeros.weight, facts.zeros.activation
+    )
+}
+
+// A name, and then each item behind a space.
+fn write_list<T: fmt::Display, W: fmt::Write>(
+    f: &mut fmt::Formatter<W>,
+    name: &str,
+    items: &[T],
+) -> fmt::Result
+    ensures { DisplaysOnOk W.write_str_gives f.old result (option_append (Some name.now) (items_output T.output items.now)) f.new }
+{
+    f.write_str(name)?;
+    for item in items {
+        write!(f, " {item}")?;
+    }
+    Ok(())
+}
