@@ -4,7 +4,6 @@ use Rattle.plans.specs.declared.any_plan.AnyPlan.{AnyPlan}
 use Rattle.plans.specs.declared.request.Request.{Request}
 use Rattle.plans.specs.declared.refusal.PlanRefusal.{PlanRefusal}
 use Rattle.plans.specs.AnyPlans.{numbers_of, NumberedAnswer}
-use Rattle.replies.specs.declared.reply.Reply.{Reply}
 use Rattle.replies.specs.declared.reply.Reply.TheVariants.{Accepted}
 use Rattle.replies.specs.Answers.{plan_refused}
 use Rattle.replies.specs.Texts.{reply_text}

@@ -1,7 +1,7 @@
 // What keeps a line from being taken.
 use std::alloc::{AllocError, AllocFailed};
 
-#[derive(Drop)]
+#[derive(Clone, Copy)]
 pub(crate) enum Fault {
     // The line is none that the console knows: what it expected.
     Expected(&'static str),
