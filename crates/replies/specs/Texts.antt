@@ -1,5 +1,5 @@
 -- The texts of replies, as bytes.
-use Rattle.std.specs.Prelude.{List, ◌++◌, codes, decimal, flat_map, ℕ}
+use Rattle.std.specs.Prelude.{List, ◌++◌, codes, decimal, flat_map, ℕ, ℤ}
 use Rattle.std.specs.Fmt.{signed_decimal}
 use Rattle.codes.specs.declared.shape.Shape.{Shape}
 use Rattle.codes.specs.declared.facts.Facts.{Facts}
@@ -35,6 +35,10 @@ facts_text f = ends_text f.shape ++ limits_text f
 
 -- ---- replies
 
+-- what a read answers
+abbrev pub sum_text : (sum : ℤ) (steps drains : ℕ) → List ℕ
+sum_text sum steps drains = codes "sum " ++ (signed_decimal sum ++ (codes " steps " ++ (decimal steps ++ (codes " drains " ++ decimal drains))))
+
 abbrev pub reply_text : Reply → List ℕ
 reply_text (reply.Accepted interval) = codes "accepted interval " ++ decimal interval
 reply_text (reply.Refused number) = codes "refused " ++ decimal number
@@ -49,7 +53,7 @@ reply_text (reply.Total total) = codes "total " ++ signed_decimal total
 reply_text reply.Opened = codes "opened"
 reply_text reply.Fed = codes "fed"
 reply_text reply.Settled = codes "settled"
-reply_text (reply.Sum sum steps drains) = codes "sum " ++ (signed_decimal sum ++ (codes " steps " ++ (decimal steps ++ (codes " drains " ++ decimal drains))))
+reply_text (reply.Sum sum steps drains) = sum_text sum steps drains
 reply_text reply.Resumed = codes "resumed"
 reply_text reply.Cleared = codes "cleared"
 reply_text reply.Misplaced = codes "misplaced"

@@ -1,8 +1,7 @@
 // What a console answers to a line.
-ghost use Rattle.std.specs.Prelude.{Some};
-ghost use Rattle.std.specs.Fmt.{WritesOnOk, DisplaysOnOk, option_append};
-ghost use Rattle.replies.specs.Texts.{reply_text, facts_text, ends_text, limits_text};
-ghost use Rattle.replies.specs.Lists.{items_output};
+ghost use Rattle.std.specs.Prelude.{◌≡◌, ℕ, List, ◌++◌, Some, decimal, refl};
+ghost use Rattle.std.specs.Fmt.{WritesOnOk, signed_decimal};
+ghost use Rattle.replies.specs.Texts.{reply_text, facts_text, ends_text, limits_text, sum_text, items_text};
 
 use codes::facts::Facts;
 use std::fmt;
@@ -71,10 +70,7 @@ impl fmt::Display for Reply {
             Reply::Opened => f.write_str("opened"),
             Reply::Fed => f.write_str("fed"),
             Reply::Settled => f.write_str("settled"),
-            Reply::Sum { sum, steps, drains } => write!(
-                f,
-                "sum {sum} steps {steps} drains {drains}"
-            ),
+            Reply::Sum { sum, steps, drains } => write_sum(f, *sum, *steps, *drains),
             Reply::Resumed => f.write_str("resumed"),
             Reply::Cleared => f.write_str("cleared"),
             Reply::Misplaced => f.write_str("misplaced"),
@@ -123,13 +119,43 @@ fn write_limits<W: fmt::Write>(f: &mut fmt::Formatter<W>, facts: &Facts) -> fmt:
     )
 }
 
+fn write_sum<W: fmt::Write>(
+    f: &mut fmt::Formatter<W>,
+    sum: i32,
+    steps: u64,
+    drains: u64,
+) -> fmt::Result
+    ensures { WritesOnOk W.write_str_gives f.old result (sum_text sum steps drains) f.new }
+{
+    write!(f, "sum {sum} steps {steps} drains {drains}")
+}
+
+// What a list of a reply holds: its text is known, whichever type of number it is.
+trait Item: fmt::Display {
+    ghost text: { Self → List ℕ };
+
+    ghost says: { (x : Self) → Self.output x ≡ Some (text x) };
+}
+
+impl Item for u16 {
+    ghost text = { decimal };
+
+    ghost says = { λ x. refl };
+}
+
+impl Item for i16 {
+    ghost text = { signed_decimal };
+
+    ghost says = { λ x. refl };
+}
+
 // A name, and then each item behind a space.
-fn write_list<T: fmt::Display, W: fmt::Write>(
+fn write_list<T: Item, W: fmt::Write>(
     f: &mut fmt::Formatter<W>,
     name: &str,
     items: &[T],
 ) -> fmt::Result
-    ensures { DisplaysOnOk W.write_str_gives f.old result (option_append (Some name.now) (items_output T.output items.now)) f.new }
+    ensures { WritesOnOk W.write_str_gives f.old result (name.now ++ items_text T.text items.now) f.new }
 {
     f.write_str(name)?;
     for item in items {
