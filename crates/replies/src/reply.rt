@@ -163,3 +163,28 @@ fn write_list<T: Item, W: fmt::Write>(
     }
     Ok(())
 }
+
+#[cfg(test)]
+mod tests {
+    use super::*;
+    use std::test::Fail;
+
+    // The contracts say what is printed, and not that printing succeeds.
+    #[test]
+    fn replies_print(rt: HostRuntime) -> Result<(), Fail> {
+        let heap = rt.alloc();
+        let words = Reply::Words(vec![in heap; 258u16, 3]?);
+        assert_eq!(rt; words.to_string(heap)?.as_str(), "words 258 3");
+        let codes = Reply::Codes(vec![in heap; -3i16, 2]?);
+        assert_eq!(rt; codes.to_string(heap)?.as_str(), "codes -3 2");
+        let error = Reply::Expected {
+            line: 3,
+            what: "drain ROW",
+        };
+        assert_eq!(rt;
+            error.to_string(heap)?.as_str(),
+            "error 3 expected drain ROW"
+        );
+        Ok(())
+    }
+}

@@ -1,4 +1,5 @@
 // What keeps a line from being taken.
+// Both consoles have this file: a library would have to publish calls with no statement of what they answer.
 use std::alloc::{AllocError, AllocFailed};
 
 #[derive(Clone, Copy)]

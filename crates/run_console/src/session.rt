@@ -95,6 +95,7 @@ impl Session {
 }
 
 impl Current {
+    // A run is moved by its calls, and each kernel's run is of another type, so every arm moves its state out and back.
     fn respond(self, heap: Global, line: &Line) -> (Current, Result<Reply, Fault>) {
         match self {
             Current::P1(state) => {
