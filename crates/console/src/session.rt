@@ -96,7 +96,6 @@ fn kernel_of(plan: AnyPlan) -> Option<Current> {
     match plan {
         AnyPlan::P1(plan) => Some(Current::P1(P1::of_plan(plan))),
         AnyPlan::P2(plan) => Some(Current::P2(P2::of_plan(plan))),
-        AnyPlan::Planes(_) => None,
-        AnyPlan::Split(_) => None,
+        AnyPlan::Planes(_) | AnyPlan::Split(_) => None,
     }
 }
