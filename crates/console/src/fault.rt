@@ -1,7 +1,8 @@
 // What keeps a line from being taken.
+// Both consoles have this file: a library would have to publish calls with no statement of what they answer.
 use std::alloc::{AllocError, AllocFailed};
 
-#[derive(Drop)]
+#[derive(Clone, Copy)]
 pub(crate) enum Fault {
     // The line is none that the console knows: what it expected.
     Expected(&'static str),

@@ -6,7 +6,6 @@ mod kernel_line;
 mod plan_line;
 mod respond;
 mod session;
-mod text;
 mod words;
 
 use session::Session;
@@ -23,7 +22,7 @@ fn main(rt: HostRuntime) -> anyhow::Result<()> {
             break;
         }
         if let Some(reply) = session.answer(line, bytes.as_slice())? {
-            rt.println(reply)?;
+            println!(rt; "{reply}")?;
         }
     }
     Ok(())

@@ -1,28 +1,26 @@
 // The state of the console, and what it answers to a line.
-ghost use Rattle.std.specs.Prelude.{◌≡◌, IfOk, string_bytes};
 ghost use Rattle.console.specs.Replies.{PlanText};
+ghost use Rattle.replies.specs.Texts.{reply_text};
 
 use crate::fault::Fault;
 use crate::kernel_line::KernelLine;
 use crate::plan_line::PlanLine;
 use crate::respond::respond;
-use crate::text;
-use kernels::kernel::Kernel;
+use crate::words::Words;
 use kernels::planned::Planned;
 use lanes::p1::P1;
 use lanes::p2::P2;
 use plans::any_plan::AnyPlan;
 use plans::request::Request;
+use replies::reply::Reply;
 use std::alloc::{AllocError, Global};
 
 const COMMANDS: &str = "plan, facts, pack, unpack, step, steps or drain";
 
 const NO_KERNEL: &str = "a plan of kind 1 or 2 before this line";
 
-// The kernel of the last accepted plan.
 #[derive(Drop)]
 enum Current {
-    Nothing,
     P1(P1),
     P2(P2),
 }
@@ -30,31 +28,30 @@ enum Current {
 #[derive(Drop)]
 pub(crate) struct Session {
     heap: Global,
-    current: Current,
+    // The kernel of the last accepted plan, if that is of a kind that has one here.
+    current: Option<Current>,
 }
 
 impl Session {
     pub(crate) fn new(heap: Global) -> Session {
         Session {
             heap,
-            current: Current::Nothing,
+            current: None,
         }
     }
 
     // The reply to a line, or none where it is blank or a comment.
-    pub(crate) fn answer(&mut self, line: u64, bytes: &[u8]) -> Result<Option<String>, AllocError> {
+    pub(crate) fn answer(&mut self, line: u64, bytes: &[u8]) -> Result<Option<Reply>, AllocError> {
         match self.take_line(bytes) {
             Ok(reply) => Ok(reply),
-            Err(Fault::Expected(what)) => Ok(Some(text::expected(self.heap, line, what)?)),
+            Err(Fault::Expected(what)) => Ok(Some(Reply::Expected { line, what })),
             Err(Fault::Memory) => Err(AllocError),
         }
     }
 
-    fn take_line(&mut self, bytes: &[u8]) -> Result<Option<String>, Fault> {
-        let Ok(text) = std::str::from_utf8(bytes) else {
-            return Err(Fault::Expected("text in UTF-8"));
-        };
-        let mut words = text.split_ascii_whitespace();
+    fn take_line(&mut self, bytes: &[u8]) -> Result<Option<Reply>, Fault> {
+        let text = std::str::from_utf8(bytes).map_err(|_| Fault::Expected("text in UTF-8"))?;
+        let mut words = Words::of(self.heap, text, COMMANDS);
         let Some(command) = words.next() else {
             return Ok(None);
         };
@@ -63,69 +60,42 @@ impl Session {
         }
         if command == "plan" {
             let line = PlanLine::parse(&mut words)?;
-            return Ok(Some(self.take_plan(line.kind, &line.request)?));
+            return Ok(Some(self.take_plan(line.kind, &line.request)));
         }
-        match KernelLine::parse(self.heap, command, &mut words)? {
+        match KernelLine::parse(command, &mut words)? {
             Some(line) => Ok(Some(self.take_kernel_line(&line)?)),
-            None => Err(Fault::Expected(COMMANDS)),
+            None => Err(words.unexpected()),
         }
     }
 
-    fn take_plan(&mut self, kind: u16, request: &Request) -> Result<String, AllocError>
-        ensures { IfOk result (λ text. PlanText kind request.now (string_bytes text)) }
+    fn take_plan(&mut self, kind: u16, request: &Request) -> Reply
+        ensures { PlanText kind request.now (reply_text result) }
     {
         match AnyPlan::check(kind, request) {
             Ok(plan) => {
                 self.current = kernel_of(plan);
-                text::accepted(self.heap, plan.facts().interval)
+                Reply::Accepted {
+                    interval: plan.facts().interval,
+                }
             }
-            Err(refusal) => text::refused(self.heap, refusal.number()),
+            Err(refusal) => refusal.into(),
         }
     }
 
-    // The kernel is moved out for the line, and moved back.
-    fn take_kernel_line(&mut self, line: &KernelLine) -> Result<String, Fault> {
-        let current = std::mem::replace(&mut self.current, Current::Nothing);
-        let (current, reply) = current.respond(self.heap, line);
-        self.current = current;
-        match reply? {
-            Some(text) => Ok(text),
+    fn take_kernel_line(&mut self, line: &KernelLine) -> Result<Reply, Fault> {
+        match &mut self.current {
+            Some(Current::P1(kernel)) => respond(self.heap, kernel, line),
+            Some(Current::P2(kernel)) => respond(self.heap, kernel, line),
             None => Err(Fault::Expected(NO_KERNEL)),
         }
     }
 }
 
-impl Current {
-    // The reply of the kernel, or none where there is no kernel.
-    fn respond(
-        self,
-        heap: Global,
-        line: &KernelLine,
-    ) -> (Current, Result<Option<String>, AllocError>) {
-        match self {
-            Current::Nothing => (Current::Nothing, Ok(None)),
-            Current::P1(mut kernel) => {
-                let reply = respond(heap, &mut kernel, line);
-                (Current::P1(kernel), some(reply))
-            }
-            Current::P2(mut kernel) => {
-                let reply = respond(heap, &mut kernel, line);
-                (Current::P2(kernel), some(reply))
-            }
-        }
-    }
-}
-
-fn some(reply: Result<String, AllocError>) -> Result<Option<String>, AllocError> {
-    Ok(Some(reply?))
-}
-
-// A new kernel of a plan.
-fn kernel_of(plan: AnyPlan) -> Current {
+// A new kernel of a plan, where its kind has one.
+fn kernel_of(plan: AnyPlan) -> Option<Current> {
     match plan {
-        AnyPlan::P1(plan) => Current::P1(P1::of_plan(plan)),
-        AnyPlan::P2(plan) => Current::P2(P2::of_plan(plan)),
-        AnyPlan::Planes(_) => Current::Nothing,
-        AnyPlan::Split(_) => Current::Nothing,
+        AnyPlan::P1(plan) => Some(Current::P1(P1::of_plan(plan))),
+        AnyPlan::P2(plan) => Some(Current::P2(P2::of_plan(plan))),
+        AnyPlan::Planes(_) | AnyPlan::Split(_) => None,
     }
 }

@@ -1,25 +1,8 @@
 // The lines that ask something of the current kernel.
+// Both consoles have this file: a library would have to publish calls with no statement of what they answer.
 use crate::fault::Fault;
-use crate::words::{end, number, numbers, numbers_before_slash};
+use crate::words::{COUNT, ROW, WORD, Words};
 use codes::side::Side;
-use std::alloc::Global;
-use std::str::SplitAsciiWhitespace;
-
-const PACK: &str = "pack w CODE... or pack a CODE...";
-
-const UNPACK: &str = "unpack w N WORD... or unpack a N WORD...";
-
-const STEP: &str = "step ROW WORD... / WORD...";
-
-const STEPS: &str = "steps ROW";
-
-const DRAIN: &str = "drain ROW";
-
-const FACTS: &str = "facts";
-
-const ROW: &str = "ROW from 0 to 18446744073709551615";
-
-const WORD: &str = "words from 0 to 65535";
 
 #[derive(Drop)]
 pub(crate) enum KernelLine {
@@ -48,21 +31,17 @@ pub(crate) enum KernelLine {
 
 impl KernelLine {
     // Takes the words after the command; none where there is no such command.
-    pub(crate) fn parse(
-        heap: Global,
-        command: &str,
-        words: &mut SplitAsciiWhitespace<'_>,
-    ) -> Result<Option<KernelLine>, Fault> {
+    pub(crate) fn parse(command: &str, words: &mut Words<'_>) -> Result<Option<KernelLine>, Fault> {
         let line = match command {
             "facts" => facts(words)?,
-            "pack" => pack(heap, words)?,
-            "unpack" => unpack(heap, words)?,
-            "step" => step(heap, words)?,
+            "pack" => pack(words)?,
+            "unpack" => unpack(words)?,
+            "step" => step(words)?,
             "steps" => KernelLine::Steps {
-                row: row(words, STEPS)?,
+                row: row(words, "steps ROW")?,
             },
             "drain" => KernelLine::Drain {
-                row: row(words, DRAIN)?,
+                row: row(words, "drain ROW")?,
             },
             _ => return Ok(None),
         };
@@ -70,21 +49,24 @@ impl KernelLine {
     }
 }
 
-fn facts(words: &mut SplitAsciiWhitespace<'_>) -> Result<KernelLine, Fault> {
-    end(words, FACTS)?;
+fn facts(words: &mut Words<'_>) -> Result<KernelLine, Fault> {
+    words.should_be("facts");
+    words.end()?;
     Ok(KernelLine::Facts)
 }
 
-fn pack(heap: Global, words: &mut SplitAsciiWhitespace<'_>) -> Result<KernelLine, Fault> {
-    let side = side(words, PACK)?;
-    let codes = numbers(heap, words, "codes from -32768 to 32767")?;
+fn pack(words: &mut Words<'_>) -> Result<KernelLine, Fault> {
+    words.should_be("pack w CODE... or pack a CODE...");
+    let side = side(words)?;
+    let codes = words.numbers("codes from -32768 to 32767")?;
     Ok(KernelLine::Pack { side, codes })
 }
 
-fn unpack(heap: Global, words: &mut SplitAsciiWhitespace<'_>) -> Result<KernelLine, Fault> {
-    let side = side(words, UNPACK)?;
-    let count = number(words, UNPACK, "N from 0 to 18446744073709551615")?;
-    let packed = numbers(heap, words, WORD)?;
+fn unpack(words: &mut Words<'_>) -> Result<KernelLine, Fault> {
+    words.should_be("unpack w N WORD... or unpack a N WORD...");
+    let side = side(words)?;
+    let count = words.number(COUNT)?;
+    let packed = words.numbers(WORD)?;
     Ok(KernelLine::Unpack {
         side,
         count,
@@ -92,10 +74,11 @@ fn unpack(heap: Global, words: &mut SplitAsciiWhitespace<'_>) -> Result<KernelLi
     })
 }
 
-fn step(heap: Global, words: &mut SplitAsciiWhitespace<'_>) -> Result<KernelLine, Fault> {
-    let row = number(words, STEP, ROW)?;
-    let weights = numbers_before_slash(heap, words, STEP, WORD)?;
-    let activations = numbers(heap, words, WORD)?;
+fn step(words: &mut Words<'_>) -> Result<KernelLine, Fault> {
+    words.should_be("step ROW WORD... / WORD...");
+    let row = words.number(ROW)?;
+    let weights = words.numbers_before_slash(WORD)?;
+    let activations = words.numbers(WORD)?;
     Ok(KernelLine::Step {
         row,
         weights,
@@ -104,16 +87,17 @@ fn step(heap: Global, words: &mut SplitAsciiWhitespace<'_>) -> Result<KernelLine
 }
 
 // One row, and nothing behind it.
-fn row(words: &mut SplitAsciiWhitespace<'_>, usage: &'static str) -> Result<usize, Fault> {
-    let row = number(words, usage, ROW)?;
-    end(words, usage)?;
+fn row(words: &mut Words<'_>, usage: &'static str) -> Result<usize, Fault> {
+    words.should_be(usage);
+    let row = words.number(ROW)?;
+    words.end()?;
     Ok(row)
 }
 
-fn side(words: &mut SplitAsciiWhitespace<'_>, usage: &'static str) -> Result<Side, Fault> {
+fn side(words: &mut Words<'_>) -> Result<Side, Fault> {
     match words.next() {
         Some("w") => Ok(Side::Weights),
         Some("a") => Ok(Side::Activations),
-        _ => Err(Fault::Expected(usage)),
+        _ => Err(words.unexpected()),
     }
 }

@@ -2,12 +2,7 @@
 use crate::fault::Fault;
 use crate::kernel_line::KernelLine;
 use crate::run_line::RunLine;
-use crate::words::end;
-use std::alloc::Global;
-use std::str::SplitAsciiWhitespace;
-
-const COMMANDS: &str =
-    "plan, facts, pack, unpack, step, steps, drain, open, feed, settle, read, resume or clear";
+use crate::words::Words;
 
 #[derive(Drop)]
 pub(crate) enum Line {
@@ -18,21 +13,18 @@ pub(crate) enum Line {
 
 impl Line {
     // Takes the words after the command.
-    pub(crate) fn parse(
-        heap: Global,
-        command: &str,
-        words: &mut SplitAsciiWhitespace<'_>,
-    ) -> Result<Line, Fault> {
+    pub(crate) fn parse(command: &str, words: &mut Words<'_>) -> Result<Line, Fault> {
         if command == "open" {
-            end(words, "open")?;
+            words.should_be("open");
+            words.end()?;
             return Ok(Line::Open);
         }
-        if let Some(line) = KernelLine::parse(heap, command, words)? {
+        if let Some(line) = KernelLine::parse(command, words)? {
             return Ok(Line::Kernel(line));
         }
-        match RunLine::parse(heap, command, words)? {
+        match RunLine::parse(command, words)? {
             Some(line) => Ok(Line::Run(line)),
-            None => Err(Fault::Expected(COMMANDS)),
+            None => Err(words.unexpected()),
         }
     }
 }

@@ -9,7 +9,6 @@ mod respond;
 mod run_line;
 mod session;
 mod state;
-mod text;
 mod words;
 
 use session::Session;
@@ -26,7 +25,7 @@ fn main(rt: HostRuntime) -> anyhow::Result<()> {
             break;
         }
         if let Some(reply) = session.answer(line, bytes.as_slice())? {
-            rt.println(reply)?;
+            println!(rt; "{reply}")?;
         }
     }
     Ok(())

@@ -1,11 +1,9 @@
 // The line `plan KIND X Y DEPTH INTERVAL ROWS LONGEST ZW ZA`.
+// Both consoles have this file: a library would have to publish calls with no statement of what they answer.
 use crate::fault::Fault;
-use crate::words::{end, number};
+use crate::words::Words;
 use codes::zero_points::ZeroPoints;
 use plans::request::Request;
-use std::str::SplitAsciiWhitespace;
-
-const USAGE: &str = "plan KIND X Y DEPTH INTERVAL ROWS LONGEST ZW ZA";
 
 // A request, and the number of the kind that it is put to.
 #[derive(Clone, Copy)]
@@ -16,16 +14,17 @@ pub(crate) struct PlanLine {
 
 impl PlanLine {
     // Takes the words after `plan`.
-    pub(crate) fn parse(words: &mut SplitAsciiWhitespace<'_>) -> Result<PlanLine, Fault> {
-        let kind = number(words, USAGE, "KIND from 0 to 65535")?;
-        let weight_size = number(words, USAGE, "X from 0 to 65535")?;
-        let activation_size = number(words, USAGE, "Y from 0 to 65535")?;
-        let depth = number(words, USAGE, "DEPTH from 0 to 65535")?;
-        let interval = number(words, USAGE, "INTERVAL from 0 to 4294967295")?;
-        let rows = number(words, USAGE, "ROWS from 0 to 65535")?;
-        let longest = number(words, USAGE, "LONGEST from 0 to 4294967295")?;
+    pub(crate) fn parse(words: &mut Words<'_>) -> Result<PlanLine, Fault> {
+        words.should_be("plan KIND X Y DEPTH INTERVAL ROWS LONGEST ZW ZA");
+        let kind = words.number("KIND from 0 to 65535")?;
+        let weight_size = words.number("X from 0 to 65535")?;
+        let activation_size = words.number("Y from 0 to 65535")?;
+        let depth = words.number("DEPTH from 0 to 65535")?;
+        let interval = words.number("INTERVAL from 0 to 4294967295")?;
+        let rows = words.number("ROWS from 0 to 65535")?;
+        let longest = words.number("LONGEST from 0 to 4294967295")?;
         let zeros = parse_zeros(words)?;
-        end(words, USAGE)?;
+        words.end()?;
         let request = Request {
             weight_size,
             activation_size,
@@ -39,8 +38,8 @@ impl PlanLine {
     }
 }
 
-fn parse_zeros(words: &mut SplitAsciiWhitespace<'_>) -> Result<ZeroPoints, Fault> {
-    let weight = number(words, USAGE, "ZW from -32768 to 32767")?;
-    let activation = number(words, USAGE, "ZA from -32768 to 32767")?;
+fn parse_zeros(words: &mut Words<'_>) -> Result<ZeroPoints, Fault> {
+    let weight = words.number("ZW from -32768 to 32767")?;
+    let activation = words.number("ZA from -32768 to 32767")?;
     Ok(ZeroPoints { weight, activation })
 }

@@ -1,19 +1,7 @@
 // The lines that are calls of a run.
 use crate::fault::Fault;
-use crate::words::{end, number, numbers, numbers_before_slash};
+use crate::words::{COUNT, ROW, WORD, Words};
 use runs::calls::Call;
-use std::alloc::Global;
-use std::str::SplitAsciiWhitespace;
-
-const FEED: &str = "feed N WORD... / WORD...";
-
-const READ: &str = "read ROW";
-
-const ROW: &str = "ROW from 0 to 18446744073709551615";
-
-const COUNT: &str = "N from 0 to 18446744073709551615";
-
-const WORD: &str = "words from 0 to 65535";
 
 #[derive(Drop)]
 pub(crate) enum RunLine {
@@ -32,13 +20,9 @@ pub(crate) enum RunLine {
 
 impl RunLine {
     // Takes the words after the command; none where there is no such command.
-    pub(crate) fn parse(
-        heap: Global,
-        command: &str,
-        words: &mut SplitAsciiWhitespace<'_>,
-    ) -> Result<Option<RunLine>, Fault> {
+    pub(crate) fn parse(command: &str, words: &mut Words<'_>) -> Result<Option<RunLine>, Fault> {
         let line = match command {
-            "feed" => feed(heap, words)?,
+            "feed" => feed(words)?,
             "read" => read(words)?,
             "settle" => alone(words, "settle", RunLine::Settle)?,
             "resume" => alone(words, "resume", RunLine::Resume)?,
@@ -67,10 +51,11 @@ impl RunLine {
     }
 }
 
-fn feed(heap: Global, words: &mut SplitAsciiWhitespace<'_>) -> Result<RunLine, Fault> {
-    let count = number(words, FEED, COUNT)?;
-    let weights = numbers_before_slash(heap, words, FEED, WORD)?;
-    let activations = numbers(heap, words, WORD)?;
+fn feed(words: &mut Words<'_>) -> Result<RunLine, Fault> {
+    words.should_be("feed N WORD... / WORD...");
+    let count = words.number(COUNT)?;
+    let weights = words.numbers_before_slash(WORD)?;
+    let activations = words.numbers(WORD)?;
     Ok(RunLine::Feed {
         count,
         weights,
@@ -78,18 +63,16 @@ fn feed(heap: Global, words: &mut SplitAsciiWhitespace<'_>) -> Result<RunLine, F
     })
 }
 
-fn read(words: &mut SplitAsciiWhitespace<'_>) -> Result<RunLine, Fault> {
-    let row = number(words, READ, ROW)?;
-    end(words, READ)?;
+fn read(words: &mut Words<'_>) -> Result<RunLine, Fault> {
+    words.should_be("read ROW");
+    let row = words.number(ROW)?;
+    words.end()?;
     Ok(RunLine::Read { row })
 }
 
 // A command with nothing behind it.
-fn alone(
-    words: &mut SplitAsciiWhitespace<'_>,
-    usage: &'static str,
-    line: RunLine,
-) -> Result<RunLine, Fault> {
-    end(words, usage)?;
+fn alone(words: &mut Words<'_>, usage: &'static str, line: RunLine) -> Result<RunLine, Fault> {
+    words.should_be(usage);
+    words.end()?;
     Ok(line)
 }

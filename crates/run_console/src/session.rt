@@ -1,26 +1,27 @@
 // The state of the console, and what it answers to a line.
-ghost use Rattle.std.specs.Prelude.{◌≡◌, IfOk, string_bytes};
 ghost use Rattle.run_console.specs.Replies.{PlanText};
+ghost use Rattle.replies.specs.Texts.{reply_text};
 
 use crate::fault::Fault;
 use crate::line::Line;
 use crate::plan_line::PlanLine;
 use crate::state::{NO_KERNEL, State};
-use crate::text;
-use kernels::kernel::Kernel;
+use crate::words::Words;
 use kernels::planned::Planned;
 use lanes::p1::P1;
 use lanes::p2::P2;
 use planes::planes::Planes;
 use plans::any_plan::AnyPlan;
 use plans::request::Request;
+use replies::reply::Reply;
 use split::split::Split;
 use std::alloc::{AllocError, Global};
 
-// The kernel of the last accepted plan, or the run that it was moved into.
+const COMMANDS: &str =
+    "plan, facts, pack, unpack, step, steps, drain, open, feed, settle, read, resume or clear";
+
 #[derive(Drop)]
 enum Current {
-    Nothing,
     P1(State<P1>),
     P2(State<P2>),
     Planes(State<Planes>),
@@ -30,31 +31,30 @@ enum Current {
 #[derive(Drop)]
 pub(crate) struct Session {
     heap: Global,
-    current: Current,
+    // The kernel of the last accepted plan, or the run that it was moved into.
+    current: Option<Current>,
 }
 
 impl Session {
     pub(crate) fn new(heap: Global) -> Session {
         Session {
             heap,
-            current: Current::Nothing,
+            current: None,
         }
     }
 
     // The reply to a line, or none where it is blank or a comment.
-    pub(crate) fn answer(&mut self, line: u64, bytes: &[u8]) -> Result<Option<String>, AllocError> {
+    pub(crate) fn answer(&mut self, line: u64, bytes: &[u8]) -> Result<Option<Reply>, AllocError> {
         match self.take_line(bytes) {
             Ok(reply) => Ok(reply),
-            Err(Fault::Expected(what)) => Ok(Some(text::expected(self.heap, line, what)?)),
+            Err(Fault::Expected(what)) => Ok(Some(Reply::Expected { line, what })),
             Err(Fault::Memory) => Err(AllocError),
         }
     }
 
-    fn take_line(&mut self, bytes: &[u8]) -> Result<Option<String>, Fault> {
-        let Ok(text) = std::str::from_utf8(bytes) else {
-            return Err(Fault::Expected("text in UTF-8"));
-        };
-        let mut words = text.split_ascii_whitespace();
+    fn take_line(&mut self, bytes: &[u8]) -> Result<Option<Reply>, Fault> {
+        let text = std::str::from_utf8(bytes).map_err(|_| Fault::Expected("text in UTF-8"))?;
+        let mut words = Words::of(self.heap, text, COMMANDS);
         let Some(command) = words.next() else {
             return Ok(None);
         };
@@ -63,37 +63,41 @@ impl Session {
         }
         if command == "plan" {
             let line = PlanLine::parse(&mut words)?;
-            return Ok(Some(self.take_plan(line.kind, &line.request)?));
+            return Ok(Some(self.take_plan(line.kind, &line.request)));
         }
-        let line = Line::parse(self.heap, command, &mut words)?;
+        let line = Line::parse(command, &mut words)?;
         Ok(Some(self.take(&line)?))
     }
 
-    fn take_plan(&mut self, kind: u16, request: &Request) -> Result<String, AllocError>
-        ensures { IfOk result (λ text. PlanText kind request.now (string_bytes text)) }
+    fn take_plan(&mut self, kind: u16, request: &Request) -> Reply
+        ensures { PlanText kind request.now (reply_text result) }
     {
         match AnyPlan::check(kind, request) {
             Ok(plan) => {
-                self.current = kernel_of(plan);
-                text::accepted(self.heap, plan.facts().interval)
+                self.current = Some(plan.into());
+                Reply::Accepted {
+                    interval: plan.facts().interval,
+                }
             }
-            Err(refusal) => text::refused(self.heap, refusal.number()),
+            Err(refusal) => refusal.into(),
         }
     }
 
     // What is current is moved out for the line, and moved back.
-    fn take(&mut self, line: &Line) -> Result<String, Fault> {
-        let current = std::mem::replace(&mut self.current, Current::Nothing);
+    fn take(&mut self, line: &Line) -> Result<Reply, Fault> {
+        let Some(current) = self.current.take() else {
+            return Err(Fault::Expected(NO_KERNEL));
+        };
         let (current, reply) = current.respond(self.heap, line);
-        self.current = current;
+        self.current = Some(current);
         reply
     }
 }
 
 impl Current {
-    fn respond(self, heap: Global, line: &Line) -> (Current, Result<String, Fault>) {
+    // A run is moved by its calls, and each kernel's run is of another type, so every arm moves its state out and back.
+    fn respond(self, heap: Global, line: &Line) -> (Current, Result<Reply, Fault>) {
         match self {
-            Current::Nothing => (Current::Nothing, Err(Fault::Expected(NO_KERNEL))),
             Current::P1(state) => {
                 let (state, reply) = state.respond(heap, line);
                 (Current::P1(state), reply)
@@ -115,11 +119,13 @@ impl Current {
 }
 
 // A new kernel of a plan.
-fn kernel_of(plan: AnyPlan) -> Current {
-    match plan {
-        AnyPlan::P1(plan) => Current::P1(State::Kernel(P1::of_plan(plan))),
-        AnyPlan::P2(plan) => Current::P2(State::Kernel(P2::of_plan(plan))),
-        AnyPlan::Planes(plan) => Current::Planes(State::Kernel(Planes::of_plan(plan))),
-        AnyPlan::Split(plan) => Current::Split(State::Kernel(Split::of_plan(plan))),
+impl From<AnyPlan> for Current {
+    fn from(plan: AnyPlan) -> Current {
+        match plan {
+            AnyPlan::P1(plan) => Current::P1(State::Kernel(P1::of_plan(plan))),
+            AnyPlan::P2(plan) => Current::P2(State::Kernel(P2::of_plan(plan))),
+            AnyPlan::Planes(plan) => Current::Planes(State::Kernel(Planes::of_plan(plan))),
+            AnyPlan::Split(plan) => Current::Split(State::Kernel(Split::of_plan(plan))),
+        }
     }
 }
