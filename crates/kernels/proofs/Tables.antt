@@ -21,7 +21,7 @@ module _ {R : Type 0} (empty : R) where
   table_set P (x ∷ xs) (suc row) new p h zero = h zero
   table_set P (x ∷ xs) (suc row) new p h (suc j) = table_set P xs row new p (λ k. h (suc k)) j
 
-  table_fill : (P : R → Type 0) (count : ℕ) → P empty → (j : ℕ) → P (get_or (replicate count empty) j empty)
+  pub table_fill : (P : R → Type 0) (count : ℕ) → P empty → (j : ℕ) → P (get_or (replicate count empty) j empty)
   table_fill P zero h j = h
   table_fill P (suc count) h zero = h
   table_fill P (suc count) h (suc j) = table_fill P count h j
