@@ -48,10 +48,10 @@ pub fn ask_codes(
     if words != needed {
         return Err(PackRefusal::Words);
     }
-    match shape.ends(side).first_outside(codes) {
-        Some(place) => Err(PackRefusal::Code { place }),
-        None => Ok(()),
-    }
+    shape
+        .ends(side)
+        .first_outside(codes)
+        .map_or(Ok(()), |place| Err(PackRefusal::Code { place }))
 }
 
 // Packing a group: at most a full one, and exactly its words.
