@@ -1,5 +1,5 @@
 -- Loops over the chunks of slices: which chunk comes, and how many there are.
-use Rattle.std.proofs.Common.{◌≡◌, ℕ, suc, ◌+◌, ◌-◌, ◌*◌, ◌<◌, ◌≤◌, ◌⊎◌, List, [], ◌∷◌, ◌++◌, map, length, take, drop, Some, None, Option, sym, refl, ap, ◌∙◌, subst, inl, inr, suc-mul, zero-mul, mul-le-mul_right, arith, length-append, length-drop, Bor, zero-add}
+use Rattle.std.proofs.Common.{◌≡◌, ℕ, suc, ◌+◌, ◌*◌, ◌<◌, ◌≤◌, ◌⊎◌, List, [], ◌∷◌, ◌++◌, map, length, take, drop, Some, None, Option, sym, refl, ap, ◌∙◌, subst, inl, inr, suc-mul, zero-mul, mul-le-mul_right, arith, length-append, length-drop, Bor}
 use Rattle.std.proofs.lemmas.Bool.{cases_lt}
 use lib.Seq.{take_at, drop_at, drop-drop}
 use lib.ListN.{length-map}

@@ -1,5 +1,5 @@
 -- One step of a row, and one more after some.
-use Rattle.std.proofs.Common.{◌≡◌, ℕ, suc, ◌+◌, ◌-◌, ◌*◌, ◌/◌, ◌%◌, ◌<◌, ◌≤◌, ◌⊎◌, List, ◌∷◌, length, take, drop, ℤ, pos, ◌+ℤ◌, ◌-ℤ◌, Some, Ok, Result, sym, refl, ap, ◌∙◌, subst, inl, inr, add-zero, mod-eq_of_lt, add-one, arith, w64}
+use Rattle.std.proofs.Common.{◌≡◌, ℕ, suc, ◌+◌, ◌*◌, ◌/◌, ◌%◌, ◌<◌, ◌≤◌, ◌⊎◌, List, ◌∷◌, length, take, ℤ, pos, ◌+ℤ◌, ◌-ℤ◌, Some, Ok, Result, sym, refl, ap, ◌∙◌, subst, inl, inr, add-zero, mod-eq_of_lt, add-one, arith, w64}
 use native.Mathlib.Nat.{div-eq_of_lt, mod-add-div', mul-add-mod_self_right, mul-add-div_right, mod_self, div_self}
 use Rattle.std.specs.Int.{int_wrap}
 use Rattle.std.proofs.lemmas.Int.{ints, int_wrap-add_left}

@@ -1,5 +1,5 @@
 -- Group after group of a row.
-use Rattle.std.proofs.Common.{◌≡◌, ℕ, length, sym, ap, ◌∙◌, subst, arith}
+use Rattle.std.proofs.Common.{ℕ, length, ap, ◌∙◌, subst, arith}
 use Rattle.std.proofs.lemmas.List.{length_push}
 use Rattle.codes.specs.declared.facts.Facts.{Facts}
 use Rattle.runs.specs.Passes.{RowStepped}

@@ -4,7 +4,7 @@ use Rattle.std.proofs.lemmas.Result.{err_from_is_err_and}
 use Rattle.std.proofs.lemmas.Int.{to_z-of_z}
 use Rattle.codes.specs.declared.facts.Facts.{Facts}
 use Rattle.runs.specs.declared.refusal.FeedRefusal.TheVariants.{Activations}
-use Rattle.runs.specs.Feeds.{ask_sizes, feed_answer}
+use Rattle.runs.specs.Feeds.{ask_sizes}
 use Rattle.runs.proofs.Checking.{refused_sizes, refused_row, refused_group, fed_ok}
 use Rattle.runs.proofs.Rows.{totalled, not_totalled}
 use Rattle.runs.proofs.Totals.{err_named, ok_kept}

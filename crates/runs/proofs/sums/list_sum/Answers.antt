@@ -1,5 +1,5 @@
 -- A group that packs its codes, the first that does not, and the sum of all.
-use Rattle.std.proofs.Common.{◌≡◌, ℕ, ◌-◌, ◌*◌, ◌<◌, ◌≤◌, length, Some, None, Ok, Err, sym, ap, ◌∙◌, subst, arith, w64, SFits, rules}
+use Rattle.std.proofs.Common.{◌≡◌, ℕ, ◌-◌, ◌*◌, ◌<◌, length, Some, None, Err, sym, ap, ◌∙◌, arith, w64, SFits, rules}
 use mir.ValLaws.{to_z-Fits}
 use Rattle.std.proofs.lemmas.Int.{wrapping_add_onto}
 use Rattle.std.proofs.lemmas.List.{length_push}
@@ -10,10 +10,10 @@ use Rattle.codes.specs.Codes.{groups}
 use Rattle.codes.specs.Shapes.{words_on}
 use Rattle.kernels.specs.Lists.{first_codes}
 use Rattle.kernels.proofs.ListSizes.{group_starts}
-use Rattle.kernels.proofs.UnpackedLists.{rest_from, rest_none}
+use Rattle.kernels.proofs.UnpackedLists.{rest_none}
 use Rattle.runs.specs.Passes.{group_total, list_total, group_words}
 use Rattle.runs.proofs.Chunks.{chunk_turn, chunk_end, words_some}
-use Rattle.runs.proofs.Totals.{on_total, not_ok, total_more, total_bad, total_all}
+use Rattle.runs.proofs.Totals.{not_ok, total_more, total_bad, total_all}
 use Rattle.runs.proofs.sums.list_sum.Goals as goal
 
 pub overflow_mul-group : goal.overflow_mul-group

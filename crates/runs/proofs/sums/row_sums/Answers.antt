@@ -1,11 +1,10 @@
 -- A row with its sum, and the first with a bad group.
-use Rattle.std.proofs.Common.{◌≡◌, ℕ, ◌*◌, ◌<◌, List, length, take, drop, None, Ok, Err, sym, ap, ◌∙◌, subst, arith, length-set, w64, SFits, rules}
+use Rattle.std.proofs.Common.{◌≡◌, ℕ, ◌*◌, List, length, None, sym, ap, ◌∙◌, subst, arith, length-set, w64, SFits, rules}
 use Rattle.std.proofs.lemmas.Int.{to_z-of_z}
 use Rattle.std.proofs.lemmas.List.{length_push}
 use Rattle.std.proofs.lemmas.Result.{err_from_is_err_and}
 use Rattle.codes.specs.declared.facts.Facts.{Facts}
 use Rattle.codes.specs.declared.side.Side.TheVariants.{Weights}
-use Rattle.codes.specs.Codes.{groups}
 use Rattle.kernels.specs.Lists.{words_for, unpacked_list}
 use Rattle.runs.specs.declared.refusal.FeedRefusal.TheVariants.{Weights as Bad}
 use Rattle.runs.specs.Feeds.{row_codes, first_bad_row}

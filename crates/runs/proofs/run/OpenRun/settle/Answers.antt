@@ -1,6 +1,6 @@
 -- Row after row is drained.
-use Rattle.std.proofs.Common.{◌≡◌, ℕ, min, ◌∙◌, subst, sym, arith, length-set}
-use Rattle.runs.proofs.Settling.{SettledTo, with_rows, settled_none, settled_more, settled_all}
+use Rattle.std.proofs.Common.{◌≡◌, min, ◌∙◌, arith, length-set}
+use Rattle.runs.proofs.Settling.{with_rows, settled_none, settled_more, settled_all}
 use Rattle.runs.proofs.run.OpenRun.settle.Goals as goal
 
 pub loop-row-preserved : goal.loop-row-preserved
