@@ -11,7 +11,8 @@ use codes::facts::Facts;
 use codes::side::Side;
 
 // A kernel means fixed facts and, for each of 64 rows, a total and a count of steps. What it keeps true of itself stands in
-// its type. How it packs depends on the make and the shape alone.
+// its type. How it packs depends on the make and the shape alone. The words of both sides, and codes beside words, are
+// parameters of their own: callers lend them in buffers of their own, and a struct would be taken apart at once.
 pub trait Kernel: Sized {
     ghost means: { Self → Meaning };
 

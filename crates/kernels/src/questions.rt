@@ -10,7 +10,7 @@ use codes::shape::Shape;
 use codes::side::Side;
 
 // A step: is there such a row, are there the words of one group on both sides, are both packings, and has the row made
-// fewer steps than its interval?
+// fewer steps than its interval? Each flag answers one question alone, and no value stands beside it.
 pub fn ask_step(row: bool, lengths: bool, packings: bool, below: bool) -> Result<(), StepRefusal>
     ensures { result ≡ step_by_tests row lengths packings below }
 {
@@ -62,7 +62,8 @@ pub fn ask_group(shape: &Shape, side: Side, codes: &[i16], words: usize) -> Resu
     ask_codes(shape, side, codes, shape.group, shape.words(side), words)
 }
 
-// Reading a code: a place of the group, the words of one group, and a packing.
+// Reading a code: a place of the group, the words of one group, and a packing. Only the make knows the last, so it comes
+// as a flag.
 pub fn ask_code(
     shape: &Shape,
     side: Side,

@@ -12,6 +12,7 @@ use runs::planned::replay_planned;
 use runs::replay::Run;
 use split::split::Split;
 
+// An enum and no dyn: a run has the type of its kernel.
 #[derive(Drop)]
 pub enum AnyRun {
     P1(Run<P1>),

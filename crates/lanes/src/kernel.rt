@@ -21,7 +21,7 @@ use kernels::table::{Row, row_at, take_row};
 use plans::plan::Plan;
 use std::marker::PhantomData;
 
-// A kernel of lanes: its lanes, and its rows. No row's total leaves its lane.
+// A kernel of lanes: its lanes, and its rows, in memory of a fixed size. No row's total leaves its lane.
 #[derive(Drop)]
 pub struct LaneKernel<M: LaneMake> {
     lanes: Lanes,

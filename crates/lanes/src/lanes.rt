@@ -133,6 +133,7 @@ fn mask_of(width: u32, depth: u32, size: u32) -> u16
 {
     let high = (1u32 << size) - 1;
     let mut mask = 0u32;
+    // Once a lane: nothing is indexed.
     for _lane in 0..depth {
         mask = (mask << width) + high;
     }

@@ -18,7 +18,7 @@ use kernels::table::{Row, row_at, take_row};
 use plans::checked_plan::CheckedPlan;
 use plans::plan::PlanesPlan;
 
-// A kernel of bit planes: what it keeps to, and its rows. No row's total leaves its lane within an interval.
+// A kernel of bit planes: what it keeps to, and its rows, in memory of a fixed size. No row's total leaves its lane within an interval.
 #[derive(Drop)]
 pub struct Planes {
     facts: Facts,

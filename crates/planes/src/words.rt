@@ -77,6 +77,8 @@ fn plane_of(codes: &[i16], k: usize) -> u16
     word as u16
 }
 
+// Planes and places are counters of the loops above: a type for their ranges would be made at each turn.
+
 // Bit k of the code at a place, where it stands in plane k.
 fn bit_in_plane(code: u16, k: usize, place: usize) -> u32
     requires plane { k < 8 }

@@ -9,6 +9,7 @@ use crate::refusal::PlanRefusal;
 use crate::request::Request;
 use codes::facts::Facts;
 
+// An enum and no dyn: what is made from a plan has a type of its own.
 #[derive(Clone, Copy)]
 pub enum AnyPlan {
     P1(P1Plan),

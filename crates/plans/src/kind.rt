@@ -3,7 +3,8 @@ ghost use Rattle.plans.specs.Kinds.{KindNumbered};
 
 use crate::refusal::PlanRefusal;
 
-// Two lane packings (P1, P2), bit planes, and signed split sums.
+// Two lane packings (P1, P2), bit planes, and signed split sums. What a kind fixes is a match in one function each, so that
+// the four rules are read beside one another; a kind comes as a number.
 #[derive(Clone, Copy, Debug, PartialEq, Eq)]
 pub enum Kind {
     P1,

@@ -17,6 +17,7 @@ pub enum Call<'a> {
     Clear,
 }
 
+// One case an answer, and no Result inside one: the law has a clause for each.
 #[derive(Clone, Copy, Debug, PartialEq, Eq)]
 pub enum Answer {
     Fed,

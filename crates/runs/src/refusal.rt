@@ -2,7 +2,7 @@
 ghost use Rattle.std.specs.Prelude.{◌≡◌};
 ghost use Rattle.runs.specs.Refusals.{feed_number, read_number};
 
-// Columns are not taken in.
+// Columns are not taken in. Cases that hold places have no numbers of their own to cast, so `number` gives them.
 #[derive(Clone, Copy, Debug, PartialEq, Eq)]
 pub enum FeedRefusal {
     // No columns.

@@ -109,6 +109,7 @@ fn group_sum<K: Kernel>(kernel: &K, side: Side, words: &[u16], used: usize) -> O
     ensures { result ≡ group_total (first_codes used (K.Kernel.unpacked (K.Kernel.means kernel.now).facts.shape side words.now)) }
 {
     let mut sum = 0i64;
+    // By place, since a kernel reads a code so.
     for place in 0..kernel.facts().shape.group {
         let code = kernel.read_code(side, words, place).ok()?;
         if !may_stand(place, used, code) {

@@ -36,7 +36,7 @@ pub(crate) fn is_word(ends: Ends, word: u16) -> bool
     ends.hold(code_at(word, 0)) && ends.hold(code_at(word, 1))
 }
 
-// The code at a place of a word.
+// The code at a place of a word. A place is a plain number, as the kernel's callers give it.
 pub(crate) fn code_at(word: u16, place: usize) -> i16
     requires { place < 2 }
     ensures { result ≡ code_at place word }

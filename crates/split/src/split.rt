@@ -21,7 +21,7 @@ use kernels::table::{Row, row_at, take_row};
 use plans::checked_plan::CheckedPlan;
 use plans::plan::SplitPlan;
 
-// A kernel of signed split sums: what it keeps to, and its rows. No lane leaves the 16 bits of its number.
+// A kernel of signed split sums: what it keeps to, and its rows, in memory of a fixed size. No lane leaves the 16 bits of its number.
 #[derive(Drop)]
 pub struct Split {
     facts: Facts,
