@@ -60,7 +60,7 @@ impl CodeRefusal {
     pub fn number(self) -> u8
         ensures { result ≡ code_number self }
     {
-        self as u8
+        self as u8 // 11, 22 or 23
     }
 }
 
@@ -91,6 +91,6 @@ impl StepRefusal {
     pub fn number(self) -> u8
         ensures { result ≡ step_number self }
     {
-        self as u8
+        self as u8 // 21 to 24
     }
 }

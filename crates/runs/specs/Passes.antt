@@ -13,7 +13,7 @@ use Rattle.runs.specs.declared.kept.Kept.{Kept}
 use Rattle.runs.specs.declared.kept.RowRecord.{RowRecord}
 use Rattle.runs.specs.declared.checked.Columns.{Columns}
 use Rattle.runs.specs.declared.refusal.FeedRefusal.{FeedRefusal}
-use Rattle.runs.specs.declared.refusal.FeedRefusal.TheVariants.{Weights as Bad}
+use Rattle.runs.specs.declared.refusal.FeedRefusal.TheVariants.{Weights as BadWeights}
 use Rattle.runs.specs.Stories.{Story, fed, onto}
 use Rattle.runs.specs.Feeds.{row_codes, first_bad_row, feed_answer, feed_columns, codes_of}
 use Rattle.runs.specs.Tells.{Tells}
@@ -34,7 +34,7 @@ list_total (Err group) = Err group
 -- what the check of all rows finds: the sum of each row's codes, or the first bad group
 abbrev pub RowsTotal : (ℕ → Result (List ℤ) ℕ) → (rows : ℕ) → Result (List ℤ) FeedRefusal → Type 0
 RowsTotal codes rows (Ok sums) = (first_bad_row codes rows ≡ None) × ((row : ℕ) → row < rows → slice_index_or sums row (pos 0) ≡ codes_total (codes_of (codes row)))
-RowsTotal codes rows (Err e) = (at : ℕ × ℕ) × (first_bad_row codes rows ≡ Some at) × (e ≡ Bad at.0 at.1)
+RowsTotal codes rows (Err e) = (at : ℕ × ℕ) × (first_bad_row codes rows ≡ Some at) × (e ≡ BadWeights at.0 at.1)
 
 -- what the check of a feed finds: the sums of its codes, or the first question that gets a no
 abbrev pub Checked : Unpacking → Facts → (accepted n : ℕ) → (weights activations : List ℕ) → Result Columns FeedRefusal → Type 0

@@ -54,6 +54,7 @@ fn step_group<K: Kernel>(
     ensures facts { (K.Kernel.means kernel.new).facts ≡ (K.Kernel.means kernel.old).facts }
     ensures after { StepsInto (K.Kernel.unpacked (K.Kernel.means kernel.old).facts.shape) (K.Kernel.means kernel.old) row kept.old weights.now activations.now result (K.Kernel.means kernel.new) kept.new }
 {
+    // The words were checked, so no step is refused.
     let _ = kernel.step(row, weights, activations);
     let steps = kernel.steps(row).unwrap_or(0);
     if steps == kernel.facts().interval {

@@ -29,6 +29,7 @@ pub fn replay_on<K: Kernel>(mut run: Run<K>, calls: &[Call], answers: &mut [Answ
     ensures rest { drop (length calls.now) answers.new ≡ drop (length calls.now) answers.old }
     ensures places { length answers.new ≡ length answers.old }
 {
+    // The answers are indexed, since a `zip` over `iter_mut` leaves open what it wrote.
     for (place, call) in calls.iter().enumerate() {
         if place < answers.len() {
             let (next, answer) = turn(run, call);

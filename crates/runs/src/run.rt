@@ -37,6 +37,7 @@ impl<K: Kernel> OpenRun<K> {
         ensures facts { (K.Kernel.means result.kernel).facts ≡ (K.Kernel.means kernel).facts }
         ensures story { Tells (K.Kernel.means result.kernel) result.kept [] }
     {
+        // The rows are the kernel's own, no list to go over.
         for row in 0..64 {
             let _ = kernel.drain(row);
         }
@@ -129,6 +130,7 @@ fn take_in<K: Kernel>(kernel: &mut K, kept: &mut Kept, columns: &Columns)
     let parts = columns
         .weights
         .chunks_exact(groups * facts.shape.weight_words);
+    // The records are indexed, since a `zip` over `iter_mut` leaves open what it wrote.
     for (row, weights) in (0..facts.rows).zip(parts) {
         let sum = columns.weight_sums[row];
         let record = &mut kept.rows[row];
@@ -154,13 +156,13 @@ fn corrected_sum(kept: &Kept, row: usize, zeros: ZeroPoints) -> i64
 fn minus_product(from: i64, zero: i16, sum: i64) -> i64
     ensures { result ≡ minus_product from zero sum }
 {
-    from.wrapping_sub((zero as i64).wrapping_mul(sum))
+    from.wrapping_sub(i64::from(zero).wrapping_mul(sum))
 }
 
 // The product of the zero points is added once a column: fill has no columns.
 fn plus_columns(from: i64, columns: u32, zeros: ZeroPoints) -> i64
     ensures { result ≡ plus_columns from columns zeros }
 {
-    let both = (zeros.weight as i64).wrapping_mul(zeros.activation as i64);
-    from.wrapping_add((columns as i64).wrapping_mul(both))
+    let both = i64::from(zeros.weight).wrapping_mul(i64::from(zeros.activation));
+    from.wrapping_add(i64::from(columns).wrapping_mul(both))
 }

@@ -109,13 +109,13 @@ fn group_sum<K: Kernel>(kernel: &K, side: Side, words: &[u16], used: usize) -> O
     ensures { result ≡ group_total (first_codes used (K.Kernel.unpacked (K.Kernel.means kernel.now).facts.shape side words.now)) }
 {
     let mut sum = 0i64;
-    // By place, since a kernel reads a code so.
+    // A kernel is asked for each code, so there is no list to go over.
     for place in 0..kernel.facts().shape.group {
         let code = kernel.read_code(side, words, place).ok()?;
         if !may_stand(place, used, code) {
             return None;
         }
-        sum = sum.wrapping_add(code as i64);
+        sum = sum.wrapping_add(i64::from(code));
     }
     Some(sum)
 }

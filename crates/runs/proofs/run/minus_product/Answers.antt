@@ -7,4 +7,4 @@ returns c =
     let from : SFits w64 c.args.from = search rules in
     let sum : SFits w64 c.args.sum = search rules in
     let zero-point : SFits w16 c.args.zero = search rules in
-    less_wrapped c.args.from c.args.zero c.args.sum from sum zero-point
+    rw c.from.ensures (less_wrapped c.args.from c.args.zero c.args.sum from sum zero-point)

@@ -8,4 +8,4 @@ returns c =
     let weight : SFits w16 c.args.zeros.weight = search rules in
     let activation : SFits w16 c.args.zeros.activation = search rules in
     let few : c.args.columns < 2 ^ 63 = search rules in
-    plus_wrapped c.args.from c.args.columns c.args.zeros.weight c.args.zeros.activation from few weight activation
+    rw (c.from.ensures, c.from-2.ensures, c.from-3.ensures) (plus_wrapped c.args.from c.args.columns c.args.zeros.weight c.args.zeros.activation from few weight activation)

@@ -1,5 +1,5 @@
 -- Reading a place: a refusal, a fill that is not 0, or one code more.
-use Rattle.std.proofs.Common.{length, ap, ◌∙◌, arith, w16, SFits, rules}
+use Rattle.std.proofs.Common.{◌+◌, ◌%◌, ℤ, length, ap, ◌∙◌, arith, w16, w64, SFits, to_z, of_z, rules}
 use Rattle.codes.specs.declared.facts.Facts.{Facts}
 use Rattle.kernels.proofs.GroupReads.{packing_length}
 use Rattle.runs.proofs.Totals.{ok_some, ok_none, summed_more, summed_unread, summed_unfilled, summed_all, code_added, stands_as}
@@ -33,7 +33,7 @@ loop-place-preserved g c =
     let fits : SFits w16 c.in_ok-code.code = search rules in
     summed_more F.shape side (length words) c.args.used c.loop-place.place (g.K.Kernel.unpacked F.shape side words) _ _ code (ok_some c.read_code.result code c.in_ok-code.ensures.value ∙ c.read_code.ensures)
     (stands_as c.loop-place.place c.args.used code _ fits c.if-not-may_stand.ensures) (omega (arith, ap (λ (f : Facts). f.shape.group) c.facts-place-end.ensures, c.loop-place-test.true))
-    (λ codes h. (g.met.K.Kernel.unpacks k side words codes h).0.full) (code_added _ code c.loop-place.auto.sum.fits fits) c.loop-place.invariant
+    (λ codes h. (g.met.K.Kernel.unpacks k side words codes h).0.full) (ap (λ (z : ℤ). to_z w64 ((c.loop-place.sum-bits + of_z w64 z) % 18446744073709551616)) c.from-sum.ensures ∙ code_added _ code c.loop-place.auto.sum.fits fits) c.loop-place.invariant
 
 pub returns : goal.returns
 returns g c =

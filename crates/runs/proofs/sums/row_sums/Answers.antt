@@ -6,7 +6,7 @@ use Rattle.std.proofs.lemmas.Result.{err_from_is_err_and}
 use Rattle.codes.specs.declared.facts.Facts.{Facts}
 use Rattle.codes.specs.declared.side.Side.TheVariants.{Weights}
 use Rattle.kernels.specs.Lists.{words_for, unpacked_list}
-use Rattle.runs.specs.declared.refusal.FeedRefusal.TheVariants.{Weights as Bad}
+use Rattle.runs.specs.declared.refusal.FeedRefusal.TheVariants.{Weights as BadWeights}
 use Rattle.runs.specs.Feeds.{row_codes, first_bad_row}
 use Rattle.runs.specs.Passes.{list_total}
 use Rattle.runs.proofs.Chunks.{chunk_turn, chunk_end}
@@ -49,9 +49,9 @@ returns-in_err-sums g c =
     let t = chunk_turn c.args.weights.now w F.rows (row_some F c.args.count c.requires.count.0) c.requires.exact c.loop-row.yielded c.into_iter-row-iterator.result c.loop-row.row-iterator c.next.new.self (cc) (cc) (cc) c.loop-row.yielded_by c.in-Some.row c.in-Some.words c.in-Some.ensures.steps in
     let row : ℕ = length c.loop-row.yielded in
     let p = err_from_is_err_and c.from_residual.result c.from_residual.ensures.1 in
-    let e = err_named (Bad c.in-Some.row) c.list_sum.result c.map_err.result c.in_err-sums.field-0.0 c.in_err-sums.was c.map_err.ensures.cases (λ e y k. search rules) in
+    let e = err_named (BadWeights c.in-Some.row) c.list_sum.result c.map_err.result c.in_err-sums.field-0.0 c.in_err-sums.was c.map_err.ensures.cases (λ e y k. search rules) in
     let bad = not_totalled _ e.0 (sym e.1 ∙ c.list_sum.ensures ∙ ap (λ (ws : List ℕ). list_total (unpacked_list u F.shape Weights n ws)) t.part_is) in
-    rw (p.1) ((row, e.0), row_bad (row_codes u F.shape n weights) row e.0 F.rows c.loop-row.invariant.1 bad t.below, p.2 ∙ e.2 ∙ ap (λ i. Bad i e.0) t.at_is)
+    rw (p.1) ((row, e.0), row_bad (row_codes u F.shape n weights) row e.0 F.rows c.loop-row.invariant.1 bad t.below, p.2 ∙ e.2 ∙ ap (λ i. BadWeights i e.0) t.at_is)
 
 pub loop-row-preserved : goal.loop-row-preserved
 loop-row-preserved g c =
