@@ -13,6 +13,7 @@ LINES = [
     ("1 enums", r"^\s*(pub(\([a-z]+\))? )?enum \w+"),
     ("1 numbers for kinds and refusals", r"fn numbered\(|fn number\(|refused_at\(\w+, \d+|Result<[^>]*, \(?usize"),
     ("1 counts that are 0 or 1, flags beside values", r"^\) -> u64$|fn drain_row.* -> u64|^\s*packing: bool|row: bool"),
+    ("1 matches and lets that take an Option or a Result apart", r"(?s)__MATCH__"),
     ("3 loops over numbers, and while", r"\bfor .* in .*\.\.|\bwhile "),
     ("4 conversions", r"fn numbered\(|fn number\(|fn (unsigned|byte_of|code_of|byte_at|word_of|some|told)\(|-> Result<Side, Fault>"),
     ("4 printing", r"format!\(|from_str\(heap,"),
@@ -37,6 +38,15 @@ def main():
     root = sys.argv[1] if len(sys.argv) > 1 else "."
     files = list(sources(root))
     for title, pattern in LINES:
+        if "__MATCH__" in pattern:
+            found = [
+                f"{os.path.relpath(path, root)}:{text.count(chr(10), 0, m.start()) + 1}: {m.group(0).split(chr(10))[0].strip()}"
+                for path, text in files
+                for m in re.finditer(r"match [^{}\n]*(?:\{[^{}\n]*\}[^{}\n]*)*\{\n\s*(?:Ok|Err|Some|None)\b", text)
+            ]
+            print(f"== {title}: {len(found)}")
+            print("\n".join(found))
+            continue
         found = [
             f"{os.path.relpath(path, root)}:{number}: {line.strip()}"
             for path, text in files

@@ -32,7 +32,7 @@ pub struct SettledRun<K: Kernel> {
 }
 
 impl<K: Kernel> OpenRun<K> {
-    // Opens a run on a kernel: drains its 64 rows, by number since they are no list, and drops what they held.
+    // Opens a run on a kernel: drains its 64 rows and drops what they held.
     pub fn open(mut kernel: K) -> OpenRun<K>
         ensures facts { (K.Kernel.means result.kernel).facts ≡ (K.Kernel.means kernel).facts }
         ensures story { Tells (K.Kernel.means result.kernel) result.kept [] }
