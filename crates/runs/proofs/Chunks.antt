@@ -174,17 +174,8 @@ pub record RowTurn (xs : List ℕ) (w rows k row : ℕ) (part : List ℕ) : Type
   pub part_is : part ≡ group_words w xs k
   pub long : length part ≡ w
 
-module _ (xs : List ℕ) (w rows : ℕ) (items : List (ℕ × Bor (List ℕ))) (parts : ChunksExact ℕ) (z s t u : Zip (Range ℕ) (ChunksExact ℕ)) (first : zip_first z ≡ record { start = 0; end = rows }) (second : zip_second z ≡ parts)
-    (whole : chunks_exact_rest parts ≡ xs) (wide : chunks_exact_size parts ≡ w) (into : s ≡ z) (y : Yields (zips nat_range_steps (chunks_exact_steps {A = ℕ})) s items t) where
-  range : zip_first s ≡ record { start = 0; end = rows }
-  range = ap zip_first into ∙ first
-
-  rest : chunks_exact_rest (zip_second s) ≡ xs
-  rest = ap (λ x. chunks_exact_rest (zip_second x)) into ∙ ap chunks_exact_rest second ∙ whole
-
-  size : chunks_exact_size (zip_second s) ≡ w
-  size = ap (λ x. chunks_exact_size (zip_second x)) into ∙ ap chunks_exact_size second ∙ wide
-
+module _ (xs : List ℕ) (w rows : ℕ) (items : List (ℕ × Bor (List ℕ))) (s t u : Zip (Range ℕ) (ChunksExact ℕ)) (range : zip_first s ≡ record { start = 0; end = rows }) (rest : chunks_exact_rest (zip_second s) ≡ xs)
+    (size : chunks_exact_size (zip_second s) ≡ w) (y : Yields (zips nat_range_steps (chunks_exact_steps {A = ℕ})) s items t) where
   abbrev numbers : List ℕ
   numbers = map (λ (p : ℕ × Bor (List ℕ)). p.0) items
 

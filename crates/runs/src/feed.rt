@@ -1,5 +1,5 @@
 // The steps of a feed, and the drains that it and a settle make, row by row.
-ghost use Rattle.std.specs.Prelude.{◌≡◌, ℕ, ◌*◌, length};
+ghost use Rattle.std.specs.Prelude.{◌≡◌, ℕ, ◌*◌, length, ◌==◌};
 ghost use Rattle.runs.specs.Passes.{DrainedInto, StepsInto, StepsRow, FeedsRow};
 
 use crate::kept::RowRecord;
@@ -57,7 +57,7 @@ fn step_group<K: Kernel>(
     // The words were checked, so no step is refused.
     let _ = kernel.step(row, weights, activations);
     let steps = kernel.steps(row).unwrap_or(0);
-    if steps == kernel.facts().interval {
+    if is_full(steps, kernel.facts().interval) {
         drain_row(kernel, row, kept)
     } else {
         0
@@ -74,4 +74,11 @@ pub(crate) fn drain_row<K: Kernel>(kernel: &mut K, row: usize, kept: &mut RowRec
     let total = kernel.drain(row).unwrap_or(0);
     kept.drained = kept.drained.wrapping_add(total);
     1
+}
+
+// Whether a row has made all the steps of its interval.
+fn is_full(steps: u32, interval: u32) -> bool
+    ensures { result ≡ (steps == interval) }
+{
+    interval == steps
 }

@@ -127,9 +127,8 @@ fn take_in<K: Kernel>(kernel: &mut K, kept: &mut Kept, columns: &Columns)
 {
     let facts = kernel.facts();
     let groups = groups_taken(facts, columns.count);
-    let parts = columns
-        .weights
-        .chunks_exact(groups * facts.shape.weight_words);
+    let size = groups * facts.shape.weight_words;
+    let parts = columns.weights.chunks_exact(size);
     // The records are indexed, since a `zip` over `iter_mut` leaves open what it wrote.
     for (row, weights) in (0..facts.rows).zip(parts) {
         let sum = columns.weight_sums[row];

@@ -1,5 +1,7 @@
 -- The rows before this one have taken the columns in.
-use Rattle.std.proofs.Common.{◌≡◌, length, Ok}
+use Rattle.std.proofs.Common.{◌≡◌, ◌*◌, length, Ok}
+use Rattle.std.specs.Iterator.Adapters.{zip_first, zip_second}
+use Rattle.std.specs.Slice.Iter.{chunks_exact_rest, chunks_exact_size}
 use Rattle.codes.specs.declared.side.Side.TheVariants.{Activations}
 use Rattle.kernels.specs.Lists.{unpacked_list}
 use Rattle.runs.specs.Stories.{Story}
@@ -18,7 +20,10 @@ invariant-loop-row g l =
     let ws = l.columns.weights.now in
     let as' = l.columns.activations.now in
     let cs = columns_with F.rows n (λ row. codes_of (row_codes u F.shape n ws row)) (codes_of (unpacked_list u F.shape Activations n as')) in
-    (length l.kept.rows ≡ 64)
+    (zip_first l.initial.row-iterator ≡ record { start = 0; end = l.facts.rows })
+    × (chunks_exact_rest (zip_second l.initial.row-iterator) ≡ ws)
+    × (chunks_exact_size (zip_second l.initial.row-iterator) ≡ l.groups * l.facts.shape.weight_words)
+    × (length l.kept.rows ≡ 64)
     × ((g.K.Kernel.means l.kernel).facts ≡ F)
     × (Checked u F l.initial.kept.accepted n ws as' (Ok l.columns)
     → (s : Story) → Tells m l.initial.kept s
