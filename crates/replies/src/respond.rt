@@ -48,6 +48,7 @@ fn pack<K: Kernel>(heap: Global, kernel: &K, side: Side, codes: &[i16]) -> Resul
 }
 
 // One code more than a list may have is lent where more are asked for, so that the count is refused and not the memory.
+
 fn unpack<K: Kernel>(
     heap: Global,
     kernel: &K,
