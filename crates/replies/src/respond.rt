@@ -48,7 +48,7 @@ fn pack<K: Kernel>(heap: Global, kernel: &K, side: Side, codes: &[i16]) -> Resul
 }
 
 // One code more than a list may have is lent where more are asked for, so that the count is refused and not the memory.
-
+#[tactic(auto, using(crate::proofs::Unpackings::unpacked), unfolding(kernels::specs::Lists::unpack_list_answer))]
 fn unpack<K: Kernel>(
     heap: Global,
     kernel: &K,
