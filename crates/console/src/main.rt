@@ -4,7 +4,6 @@
 mod fault;
 mod kernel_line;
 mod plan_line;
-mod respond;
 mod session;
 mod words;
 

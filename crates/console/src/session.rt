@@ -5,7 +5,6 @@ ghost use Rattle.replies.specs.Texts.{reply_text};
 use crate::fault::Fault;
 use crate::kernel_line::KernelLine;
 use crate::plan_line::PlanLine;
-use crate::respond::respond;
 use crate::words::Words;
 use kernels::planned::Planned;
 use lanes::p1::P1;
@@ -13,6 +12,7 @@ use lanes::p2::P2;
 use plans::any_plan::AnyPlan;
 use plans::request::Request;
 use replies::reply::Reply;
+use replies::respond::respond;
 use std::alloc::{AllocError, Global};
 
 const COMMANDS: &str = "plan, facts, pack, unpack, step, steps or drain";
@@ -83,11 +83,12 @@ impl Session {
     }
 
     fn take_kernel_line(&mut self, line: &KernelLine) -> Result<Reply, Fault> {
-        match &mut self.current {
-            Some(Current::P1(kernel)) => respond(self.heap, kernel, line),
-            Some(Current::P2(kernel)) => respond(self.heap, kernel, line),
-            None => Err(Fault::Expected(NO_KERNEL)),
-        }
+        let reply = match &mut self.current {
+            Some(Current::P1(kernel)) => respond(self.heap, kernel, line.ask())?,
+            Some(Current::P2(kernel)) => respond(self.heap, kernel, line.ask())?,
+            None => return Err(Fault::Expected(NO_KERNEL)),
+        };
+        Ok(reply)
     }
 }
 

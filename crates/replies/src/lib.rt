@@ -1,5 +1,7 @@
-// Replies of a console to its lines: what they say, and the text of each.
+// Replies of a console to its lines: what they say, the text of each, and what a kernel replies.
 #![tactic(auto)]
 
+pub mod ask;
 mod from_refusals;
 pub mod reply;
+pub mod respond;

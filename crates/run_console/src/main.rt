@@ -5,7 +5,6 @@ mod fault;
 mod kernel_line;
 mod line;
 mod plan_line;
-mod respond;
 mod run_line;
 mod session;
 mod state;

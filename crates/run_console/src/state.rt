@@ -4,9 +4,9 @@ ghost use Rattle.replies.specs.Texts.{reply_text};
 
 use crate::fault::Fault;
 use crate::line::Line;
-use crate::respond::respond;
 use kernels::kernel::Kernel;
 use replies::reply::Reply;
+use replies::respond::respond;
 use runs::calls::{Answer, Call};
 use runs::replay::{Run, replay, replay_on};
 use std::alloc::Global;
@@ -37,8 +37,8 @@ fn on_kernel<K: Kernel>(
 ) -> (State<K>, Result<Reply, Fault>) {
     match line {
         Line::Kernel(line) => {
-            let reply = respond(heap, &mut kernel, line);
-            (State::Kernel(kernel), reply)
+            let reply = respond(heap, &mut kernel, line.ask());
+            (State::Kernel(kernel), reply.map_err(Fault::from))
         }
         Line::Open => (State::Run(replay(kernel, &[], &mut [])), Ok(Reply::Opened)),
         Line::Run(_) => (State::Kernel(kernel), Err(Fault::Expected(NO_RUN))),
