@@ -1,0 +1,62 @@
+-- The words of a line, the numbers that they spell, and why they are refused.
+use Rattle.std.specs.Prelude.{◌≡◌, ◌≢◌, ℕ, List, [], ◌∷◌, ◌++◌, ◌⊎◌, map, All, Ok, Err, Result, codes}
+use Rattle.std.specs.List.{AllZip}
+use Rattle.std.specs.Borrow.{Bor}
+use Rattle.lines.specs.declared.words.Words.{Words}
+use Rattle.lines.specs.declared.fault.Fault.{Fault}
+use Rattle.lines.specs.declared.fault.Fault.TheVariants.{Expected, Memory}
+
+-- a text is the list of its bytes, and so is a word
+abbrev pub Text : Type 0
+Text = List ℕ
+
+-- the texts behind references
+abbrev pub texts : List (Bor Text) → List Text
+texts = map (λ word. word.now)
+
+-- the words that are left
+abbrev pub words_left : Words → List Text
+words_left words = texts words.left.now
+
+-- what the line should be
+abbrev pub usage_of : Words → Text
+usage_of words = words.usage.now
+
+-- what is said of the text that was expected; a lack of memory says nothing
+abbrev pub IfExpected : Fault → (Text → Type 0) → Type 0
+IfExpected (Expected text) P = P text.now
+IfExpected Memory P = Unit {0}
+
+-- ---- numbers, as the type's `from_str` gives them
+
+-- a word spells a number
+abbrev pub Spells : {T E : Type 0} → (Text → Result T E → Type 0) → Text → T → Type 0
+Spells gives word v = gives word (Ok v)
+
+-- a word spells no number
+abbrev pub SpellsNone : {T E : Type 0} → (Text → Result T E → Type 0) → Text → Type 0
+SpellsNone {T} {E} gives word = (e : E) × gives word (Err e)
+
+-- each word spells the number at its place
+abbrev pub SpellEach : {T E : Type 0} → (Text → Result T E → Type 0) → List Text → List T → Type 0
+SpellEach gives = AllZip (Spells gives)
+
+-- ---- one number
+
+-- the first word spells the number, and the rest follows
+pub record FirstSpells {T E : Type 0} (gives : Text → Result T E → Type 0) (words rest : List Text) (v : T) : Type 0 where
+  pub word : Text
+  pub parts : words ≡ word ∷ rest
+  pub spelled : Spells gives word v
+
+-- the first word spells no number
+pub record FirstSpellsNone {T E : Type 0} (gives : Text → Result T E → Type 0) (words : List Text) : Type 0 where
+  pub word : Text
+  pub rest : List Text
+  pub parts : words ≡ word ∷ rest
+  pub wrong : SpellsNone gives word
+
+-- why there is no number: no word is left, or it spells none
+abbrev pub NoNumber : {T E : Type 0} → (Text → Result T E → Type 0) → Text → Text → List Text → Text → Type 0
+NoNumber gives usage own words text =
+    ((words ≡ []) × (text ≡ usage)) ⊎ (FirstSpellsNone gives words × (text ≡ own))

@@ -1,0 +1,5 @@
+// Lines of a console, taken apart into words, numbers, plan lines and kernel lines.
+#![tactic(auto)]
+
+pub mod fault;
+pub mod words;
