@@ -1,6 +1,6 @@
 -- The words of a line, the numbers that they spell, and why they are refused.
-use Rattle.std.specs.Prelude.{◌≡◌, ◌≢◌, ℕ, List, [], ◌∷◌, ◌++◌, ◌⊎◌, map, All, Ok, Err, Result, codes}
-use Rattle.std.specs.List.{AllZip}
+use Rattle.std.specs.Prelude.{◌≡◌, ◌≢◌, ℕ, List, [], ◌∷◌, ◌++◌, ◌⊎◌, map, Ok, Err, Result, codes}
+use Rattle.std.specs.List.{AllZip, AllByRecursion}
 use Rattle.std.specs.Borrow.{Bor}
 use Rattle.lines.specs.declared.words.Words.{Words}
 use Rattle.lines.specs.declared.fault.Fault.{Fault}
@@ -60,3 +60,42 @@ pub record FirstSpellsNone {T E : Type 0} (gives : Text → Result T E → Type 
 abbrev pub NoNumber : {T E : Type 0} → (Text → Result T E → Type 0) → Text → Text → List Text → Text → Type 0
 NoNumber gives usage own words text =
     ((words ≡ []) × (text ≡ usage)) ⊎ (FirstSpellsNone gives words × (text ≡ own))
+
+-- ---- a list of numbers
+
+-- the first word that spells no number, after words that spell some
+pub record OneSpellsNone {T E : Type 0} (gives : Text → Result T E → Type 0) (words : List Text) : Type 0 where
+  pub before : List Text
+  pub word : Text
+  pub after : List Text
+  pub numbers : List T
+  pub parts : words ≡ before ++ (word ∷ after)
+  pub spelled : SpellEach gives before numbers
+  pub wrong : SpellsNone gives word
+
+-- ---- a list of numbers before a slash
+
+abbrev pub slash : Text
+slash = codes "/"
+
+abbrev pub IsNoSlash : Text → Type 0
+IsNoSlash word = word ≢ slash
+
+-- the words before the first slash spell the numbers, and the rest follows the slash
+pub record SpellsToSlash {T E : Type 0} (gives : Text → Result T E → Type 0) (words rest : List Text) (numbers : List T) : Type 0 where
+  pub before : List Text
+  pub parts : words ≡ before ++ (slash ∷ rest)
+  pub no_slash : AllByRecursion IsNoSlash before
+  pub spelled : SpellEach gives before numbers
+
+-- the first word that spells no number, with no slash up to it
+pub record OneBeforeSlashSpellsNone {T E : Type 0} (gives : Text → Result T E → Type 0) (words : List Text) : Type 0 where
+  pub first : OneSpellsNone gives words
+  pub no_slash : AllByRecursion IsNoSlash first.before
+  pub no_slash_there : IsNoSlash first.word
+
+-- why there is no such list: words that spell numbers and no slash behind them, or one that spells none
+abbrev pub NoListToSlash : {T E : Type 0} → (Text → Result T E → Type 0) → Text → Text → List Text → Text → Type 0
+NoListToSlash {T} gives usage own words text =
+    (((numbers : List T) × SpellEach gives words numbers × AllByRecursion IsNoSlash words) × (text ≡ usage))
+    ⊎ (OneBeforeSlashSpellsNone gives words × (text ≡ own))

@@ -2,4 +2,6 @@
 #![tactic(auto)]
 
 pub mod fault;
+pub mod kernel_line;
+pub mod plan_line;
 pub mod words;

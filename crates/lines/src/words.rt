@@ -1,6 +1,6 @@
 // The words of a line, and the numbers that they spell.
-ghost use Rattle.std.specs.Prelude.{◌≡◌, ◌∷◌, [], MatchOption, MatchResult};
-ghost use Rattle.lines.specs.Words.{texts, words_left, usage_of, IfExpected, Spells, SpellsNone, FirstSpells, NoNumber};
+ghost use Rattle.std.specs.Prelude.{◌≡◌, ◌≢◌, ◌∷◌, [], MatchOption, MatchResult, OnOk};
+ghost use Rattle.lines.specs.Words.{texts, words_left, usage_of, IfExpected, Spells, SpellsNone, FirstSpells, NoNumber, SpellEach, OneSpellsNone, SpellsToSlash, NoListToSlash};
 
 use crate::fault::Fault;
 use std::alloc::Global;
@@ -48,7 +48,7 @@ impl<'a> Words<'a> {
     }
 
     pub fn next(&mut self) -> Option<&'a str>
-        ensures word { MatchOption result (words_left self.old ≡ []) (λ word. words_left self.old ≡ word.now ∷ words_left self.new) }
+        ensures word { MatchOption result ((words_left self.old ≡ []) × (words_left self.new ≡ [])) (λ word. words_left self.old ≡ word.now ∷ words_left self.new) }
         ensures usage { usage_of self.new ≡ usage_of self.old }
     {
         let [word, left @ ..] = self.left else {
@@ -68,6 +68,51 @@ impl<'a> Words<'a> {
         match self.next() {
             Some(word) => spelled(word, expected),
             None => Err(self.unexpected()),
+        }
+    }
+
+    // The numbers that the rest of the line spells.
+    pub fn numbers<T: FromStr + Drop>(&mut self, expected: &'static str) -> Result<Vec<T>, Fault>
+    where
+        T::Err: Drop,
+        ensures cases { MatchResult result (λ list. SpellEach T.from_str_gives (words_left self.old) list.items) (λ fault. IfExpected fault (λ text. OneSpellsNone T.from_str_gives (words_left self.old) × (text ≡ expected.entry.now))) }
+        ensures all { OnOk result (words_left self.new ≡ []) }
+        ensures usage { usage_of self.new ≡ usage_of self.old }
+    {
+        let mut list = Vec::new(self.heap);
+        while let Some(word) = self.next() {
+            list.push(spelled(word, expected)?)?;
+        }
+        Ok(list)
+    }
+
+    // The numbers that the words before a `/` spell.
+    pub fn numbers_before_slash<T: FromStr + Drop>(
+        &mut self,
+        expected: &'static str,
+    ) -> Result<Vec<T>, Fault>
+    where
+        T::Err: Drop,
+        ensures cases { MatchResult result (λ list. SpellsToSlash T.from_str_gives (words_left self.old) (words_left self.new) list.items) (λ fault. IfExpected fault (NoListToSlash T.from_str_gives (usage_of self.old) expected.entry.now (words_left self.old))) }
+        ensures usage { usage_of self.new ≡ usage_of self.old }
+    {
+        let mut list = Vec::new(self.heap);
+        while let Some(word) = self.next() {
+            if word == "/" {
+                return Ok(list);
+            }
+            list.push(spelled(word, expected)?)?;
+        }
+        Err(self.unexpected())
+    }
+
+    // Nothing may be left on the line.
+    pub fn end(&mut self) -> Result<(), Fault>
+        ensures cases { MatchResult result (λ unit. words_left self.old ≡ []) (λ fault. IfExpected fault (λ text. (words_left self.old ≢ []) × (text ≡ usage_of self.old))) }
+    {
+        match self.next() {
+            Some(_) => Err(self.unexpected()),
+            None => Ok(()),
         }
     }
 }

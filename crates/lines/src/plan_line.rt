@@ -1,0 +1,46 @@
+// The line `plan KIND X Y DEPTH INTERVAL ROWS LONGEST ZW ZA`.
+ghost use Rattle.std.specs.Prelude.{MatchResult};
+ghost use Rattle.lines.specs.Words.{words_left, IfExpected};
+ghost use Rattle.lines.specs.PlanLines.{SaysPlan, plan_parts};
+ghost use Rattle.lines.specs.Parts.{FailsIn};
+
+use crate::fault::Fault;
+use crate::words::Words;
+use codes::zero_points::ZeroPoints;
+use plans::request::Request;
+
+// A request, and the number of the kind that it is put to.
+#[derive(Clone, Copy, Debug, PartialEq, Eq)]
+pub struct PlanLine {
+    pub kind: u16,
+    pub request: Request,
+}
+
+impl PlanLine {
+    // Takes the words after `plan`.
+    pub fn parse(words: &mut Words<'_>) -> Result<PlanLine, Fault>
+        ensures { MatchResult result (λ line. SaysPlan line (words_left words.old)) (λ fault. IfExpected fault (FailsIn plan_parts (words_left words.old))) }
+    {
+        words.should_be("plan KIND X Y DEPTH INTERVAL ROWS LONGEST ZW ZA");
+        let kind = words.number("KIND from 0 to 65535")?;
+        let weight_size = words.number("X from 0 to 65535")?;
+        let activation_size = words.number("Y from 0 to 65535")?;
+        let depth = words.number("DEPTH from 0 to 65535")?;
+        let interval = words.number("INTERVAL from 0 to 4294967295")?;
+        let rows = words.number("ROWS from 0 to 65535")?;
+        let longest = words.number("LONGEST from 0 to 4294967295")?;
+        let weight = words.number("ZW from -32768 to 32767")?;
+        let activation = words.number("ZA from -32768 to 32767")?;
+        words.end()?;
+        let request = Request {
+            weight_size,
+            activation_size,
+            depth,
+            interval,
+            rows,
+            longest,
+            zeros: ZeroPoints { weight, activation },
+        };
+        Ok(PlanLine { kind, request })
+    }
+}
