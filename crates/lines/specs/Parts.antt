@@ -65,7 +65,7 @@ end_part usage = record {
 }
 
 -- words begin with the first parts, and what is left is refused with the text at the next part
-abbrev pub FailsIn : List Part → List Text → Text → Type 0
+unfoldable pub FailsIn : List Part → List Text → Text → Type 0
 FailsIn [] words text = ⊥
 FailsIn (part ∷ parts) words text =
     part.refused words text ⊎ ((rest : List Text) × part.begins words rest × FailsIn parts rest text)

@@ -1,5 +1,5 @@
 // Lines of a console, taken apart into words, numbers, plan lines and kernel lines.
-#![tactic(auto)]
+#![tactic(auto, unfolding(crate::specs::Parts::FailsIn))]
 
 pub mod fault;
 pub mod kernel_line;
