@@ -1,7 +1,7 @@
 // What a kernel answers to a line, over any kernel.
 // Both consoles have this file: a library would have to publish calls with no statement of what they answer.
-use crate::fault::Fault;
-use crate::kernel_line::KernelLine;
+use lines::fault::Fault;
+use lines::kernel_line::KernelLine;
 use codes::side::Side;
 use kernels::kernel::Kernel;
 use kernels::lists::{pack_codes, unpack_codes, words_needed};

@@ -2,7 +2,7 @@
 ghost use Rattle.run_console.specs.Replies.{CallAnswered};
 ghost use Rattle.replies.specs.Texts.{reply_text};
 
-use crate::fault::Fault;
+use lines::fault::Fault;
 use crate::line::Line;
 use crate::respond::respond;
 use kernels::kernel::Kernel;
