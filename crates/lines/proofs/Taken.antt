@@ -7,7 +7,7 @@ use Rattle.std.proofs.lemmas.Bool.{false≢true}
 use Rattle.std.proofs.lemmas.Slice.Eq.{bytes_eq-Decides}
 use Rattle.lines.specs.declared.fault.Fault.{Fault}
 use Rattle.lines.specs.declared.fault.Fault.TheVariants.{Expected, Memory}
-use Rattle.lines.specs.Words.{Text, IfExpected, Spells, SpellsNone, SpellEach, OneSpellsNone, IsNoSlash, slash, SpellsToSlash, OneBeforeSlashSpellsNone, NoListToSlash}
+use Rattle.lines.specs.Words.{Text, IfExpected, Spells, SpellsNone, SpellEach, OneSpellsNone, IsNoSlash, slash, SpellsToSlash, OneBeforeSlashSpellsNone, NoSlashAtAll, NoListToSlash}
 
 -- the words before those that are left, and the numbers that they spell
 pub record Taken {T E : Type 0} (gives : Text → Result T E → Type 0) (words rest : List Text) (numbers : List T) : Type 0 where
@@ -80,10 +80,10 @@ wrong_before_slash gives words left rest numbers word h e unlike wrong = record 
   no_slash_there = unlike;
 }
 
-pub no_slash_at_all : {T E : Type 0} (gives : Text → Result T E → Type 0) (words left : List Text) (numbers : List T) → TakenBeforeSlash gives words left numbers → left ≡ [] → SpellEach gives words numbers × AllByRecursion IsNoSlash words
+pub no_slash_at_all : {T E : Type 0} (gives : Text → Result T E → Type 0) (words left : List Text) (numbers : List T) → TakenBeforeSlash gives words left numbers → left ≡ [] → NoSlashAtAll gives words
 no_slash_at_all gives words left numbers h e =
     let whole : words ≡ h.taken.before = h.taken.parts ∙ (ap (λ xs. h.taken.before ++ xs) e ∙ append-nil h.taken.before) in
-    rw whole (h.taken.spelled, h.no_slash)
+    rw whole record { numbers = numbers; spelled = h.taken.spelled; no_slash = h.no_slash }
 
 pub unlike_slash : (b : Bool) (word : Text) → b ≡ bytes_eq word slash → b ≡ false → IsNoSlash word
 unlike_slash b word e n is = absurd (false≢true (sym n ∙ (e ∙ (bytes_eq-Decides word slash).1 is)))

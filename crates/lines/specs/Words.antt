@@ -1,5 +1,5 @@
 -- The words of a line, the numbers that they spell, and why they are refused.
-use Rattle.std.specs.Prelude.{◌≡◌, ◌≢◌, ℕ, List, [], ◌∷◌, ◌++◌, ◌⊎◌, map, Ok, Err, Result, codes}
+use Rattle.std.specs.Prelude.{◌≡◌, ◌≢◌, ℕ, List, [], ◌∷◌, ◌++◌, ◌⊎◌, map, Ok, Err, Result, MatchResult, codes}
 use Rattle.std.specs.List.{AllZip, AllByRecursion}
 use Rattle.std.specs.Borrow.{Bor}
 use Rattle.lines.specs.declared.words.Words.{Words}
@@ -26,6 +26,10 @@ usage_of words = words.usage.now
 abbrev pub IfExpected : Fault → (Text → Type 0) → Type 0
 IfExpected (Expected text) P = P text.now
 IfExpected Memory P = Unit {0}
+
+-- what is said of a value, and of the text where another line was expected
+abbrev pub OkOrExpected : {A : Type 0} → Result A Fault → (A → Type 0) → (Text → Type 0) → Type 0
+OkOrExpected result P Q = MatchResult result P (λ fault. IfExpected fault Q)
 
 -- ---- numbers, as the type's `from_str` gives them
 
@@ -56,14 +60,14 @@ pub record FirstSpellsNone {T E : Type 0} (gives : Text → Result T E → Type 
   pub parts : words ≡ word ∷ rest
   pub wrong : SpellsNone gives word
 
--- why there is no number: no word is left, or it spells none
+-- why there is no number: no word is left, or the first spells none
 abbrev pub NoNumber : {T E : Type 0} → (Text → Result T E → Type 0) → Text → Text → List Text → Text → Type 0
 NoNumber gives usage own words text =
     ((words ≡ []) × (text ≡ usage)) ⊎ (FirstSpellsNone gives words × (text ≡ own))
 
--- ---- a list of numbers
+-- ---- all words that are left
 
--- the first word that spells no number, after words that spell some
+-- the first of the words that spells no number
 pub record OneSpellsNone {T E : Type 0} (gives : Text → Result T E → Type 0) (words : List Text) : Type 0 where
   pub before : List Text
   pub word : Text
@@ -73,7 +77,7 @@ pub record OneSpellsNone {T E : Type 0} (gives : Text → Result T E → Type 0)
   pub spelled : SpellEach gives before numbers
   pub wrong : SpellsNone gives word
 
--- ---- a list of numbers before a slash
+-- ---- the words before a slash
 
 abbrev pub slash : Text
 slash = codes "/"
@@ -88,14 +92,20 @@ pub record SpellsToSlash {T E : Type 0} (gives : Text → Result T E → Type 0)
   pub no_slash : AllByRecursion IsNoSlash before
   pub spelled : SpellEach gives before numbers
 
--- the first word that spells no number, with no slash up to it
+-- the same, with no slash up to that word
 pub record OneBeforeSlashSpellsNone {T E : Type 0} (gives : Text → Result T E → Type 0) (words : List Text) : Type 0 where
   pub first : OneSpellsNone gives words
   pub no_slash : AllByRecursion IsNoSlash first.before
   pub no_slash_there : IsNoSlash first.word
 
--- why there is no such list: words that spell numbers and no slash behind them, or one that spells none
+-- each of the words spells a number, and none is a slash
+pub record NoSlashAtAll {T E : Type 0} (gives : Text → Result T E → Type 0) (words : List Text) : Type 0 where
+  pub numbers : List T
+  pub spelled : SpellEach gives words numbers
+  pub no_slash : AllByRecursion IsNoSlash words
+
+-- why there is no such list: no slash is there, or a word before it spells none
 abbrev pub NoListToSlash : {T E : Type 0} → (Text → Result T E → Type 0) → Text → Text → List Text → Text → Type 0
-NoListToSlash {T} gives usage own words text =
-    (((numbers : List T) × SpellEach gives words numbers × AllByRecursion IsNoSlash words) × (text ≡ usage))
+NoListToSlash gives usage own words text =
+    (NoSlashAtAll gives words × (text ≡ usage))
     ⊎ (OneBeforeSlashSpellsNone gives words × (text ≡ own))

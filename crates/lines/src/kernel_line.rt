@@ -1,8 +1,8 @@
 // The lines that ask something of the current kernel.
-ghost use Rattle.std.specs.Prelude.{◌≡◌, ◌∷◌, [], MatchResult, MatchOption, codes};
-ghost use Rattle.lines.specs.Words.{words_left, usage_of, IfExpected};
+ghost use Rattle.std.specs.Prelude.{◌≡◌, ◌∷◌, [], MatchOption, codes};
+ghost use Rattle.lines.specs.Words.{words_left, usage_of, OkOrExpected};
 ghost use Rattle.lines.specs.Parts.{letter, NoSide, FailsIn};
-ghost use Rattle.lines.specs.KernelLines.{command_of, IsNoCommand, Says, SaysRow, Refused, facts_parts, pack_parts, unpack_parts, step_parts, row_parts};
+ghost use Rattle.lines.specs.KernelLines.{command_of, IsNoCommand, Says, SaysRow, Parses, Refused, facts_parts, pack_parts, unpack_parts, step_parts, row_parts};
 
 use crate::fault::Fault;
 use crate::words::{COUNT, ROW, WORD, Words};
@@ -36,9 +36,7 @@ pub enum KernelLine {
 impl KernelLine {
     // Takes the words after the command; none where there is no such command.
     pub fn parse(command: &str, words: &mut Words<'_>) -> Result<Option<KernelLine>, Fault>
-        ensures { MatchResult result
-            (λ found. MatchOption found (IsNoCommand command.now) (λ line. (command.now ≡ command_of line) × Says line (words_left words.old)))
-            (λ fault. IfExpected fault (Refused command.now (words_left words.old))) }
+        ensures { OkOrExpected result (λ found. MatchOption found (IsNoCommand command.now) (λ line. (command.now ≡ command_of line) × Says line (words_left words.old))) (Refused command.now (words_left words.old)) }
     {
         let line = match command {
             "facts" => facts(words)?,
@@ -58,7 +56,7 @@ impl KernelLine {
 }
 
 fn facts(words: &mut Words<'_>) -> Result<KernelLine, Fault>
-    ensures { MatchResult result (λ line. (command_of line ≡ codes "facts") × Says line (words_left words.old)) (λ fault. IfExpected fault (FailsIn facts_parts (words_left words.old))) }
+    ensures { Parses (codes "facts") facts_parts (words_left words.old) result }
 {
     words.should_be("facts");
     words.end()?;
@@ -66,7 +64,7 @@ fn facts(words: &mut Words<'_>) -> Result<KernelLine, Fault>
 }
 
 fn pack(words: &mut Words<'_>) -> Result<KernelLine, Fault>
-    ensures { MatchResult result (λ line. (command_of line ≡ codes "pack") × Says line (words_left words.old)) (λ fault. IfExpected fault (FailsIn pack_parts (words_left words.old))) }
+    ensures { Parses (codes "pack") pack_parts (words_left words.old) result }
 {
     words.should_be("pack w CODE... or pack a CODE...");
     let side = side(words)?;
@@ -75,7 +73,7 @@ fn pack(words: &mut Words<'_>) -> Result<KernelLine, Fault>
 }
 
 fn unpack(words: &mut Words<'_>) -> Result<KernelLine, Fault>
-    ensures { MatchResult result (λ line. (command_of line ≡ codes "unpack") × Says line (words_left words.old)) (λ fault. IfExpected fault (FailsIn unpack_parts (words_left words.old))) }
+    ensures { Parses (codes "unpack") unpack_parts (words_left words.old) result }
 {
     words.should_be("unpack w N WORD... or unpack a N WORD...");
     let side = side(words)?;
@@ -89,7 +87,7 @@ fn unpack(words: &mut Words<'_>) -> Result<KernelLine, Fault>
 }
 
 fn step(words: &mut Words<'_>) -> Result<KernelLine, Fault>
-    ensures { MatchResult result (λ line. (command_of line ≡ codes "step") × Says line (words_left words.old)) (λ fault. IfExpected fault (FailsIn step_parts (words_left words.old))) }
+    ensures { Parses (codes "step") step_parts (words_left words.old) result }
 {
     words.should_be("step ROW WORD... / WORD...");
     let row = words.number(ROW)?;
@@ -104,7 +102,7 @@ fn step(words: &mut Words<'_>) -> Result<KernelLine, Fault>
 
 // One row, and nothing behind it.
 fn row(words: &mut Words<'_>, usage: &'static str) -> Result<usize, Fault>
-    ensures { MatchResult result (λ row. SaysRow row (words_left words.old)) (λ fault. IfExpected fault (FailsIn (row_parts usage.entry.now) (words_left words.old))) }
+    ensures { OkOrExpected result (λ row. SaysRow row (words_left words.old)) (FailsIn (row_parts usage.entry.now) (words_left words.old)) }
 {
     words.should_be(usage);
     let row = words.number(ROW)?;
@@ -113,7 +111,7 @@ fn row(words: &mut Words<'_>, usage: &'static str) -> Result<usize, Fault>
 }
 
 fn side(words: &mut Words<'_>) -> Result<Side, Fault>
-    ensures cases { MatchResult result (λ side. words_left words.old ≡ letter side ∷ words_left words.new) (λ fault. IfExpected fault (NoSide (usage_of words.old) (words_left words.old))) }
+    ensures cases { OkOrExpected result (λ side. words_left words.old ≡ letter side ∷ words_left words.new) (NoSide (usage_of words.old) (words_left words.old)) }
     ensures usage { usage_of words.new ≡ usage_of words.old }
 {
     match words.next() {

@@ -1,6 +1,5 @@
 // The line `plan KIND X Y DEPTH INTERVAL ROWS LONGEST ZW ZA`.
-ghost use Rattle.std.specs.Prelude.{MatchResult};
-ghost use Rattle.lines.specs.Words.{words_left, IfExpected};
+ghost use Rattle.lines.specs.Words.{words_left, OkOrExpected};
 ghost use Rattle.lines.specs.PlanLines.{SaysPlan, plan_parts};
 ghost use Rattle.lines.specs.Parts.{FailsIn};
 
@@ -19,7 +18,7 @@ pub struct PlanLine {
 impl PlanLine {
     // Takes the words after `plan`.
     pub fn parse(words: &mut Words<'_>) -> Result<PlanLine, Fault>
-        ensures { MatchResult result (λ line. SaysPlan line (words_left words.old)) (λ fault. IfExpected fault (FailsIn plan_parts (words_left words.old))) }
+        ensures { OkOrExpected result (λ line. SaysPlan line (words_left words.old)) (FailsIn plan_parts (words_left words.old)) }
     {
         words.should_be("plan KIND X Y DEPTH INTERVAL ROWS LONGEST ZW ZA");
         let kind = words.number("KIND from 0 to 65535")?;

@@ -1,6 +1,6 @@
 // The words of a line, and the numbers that they spell.
-ghost use Rattle.std.specs.Prelude.{◌≡◌, ◌≢◌, ◌∷◌, [], MatchOption, MatchResult, OnOk};
-ghost use Rattle.lines.specs.Words.{texts, words_left, usage_of, IfExpected, Spells, SpellsNone, FirstSpells, NoNumber, SpellEach, OneSpellsNone, SpellsToSlash, NoListToSlash};
+ghost use Rattle.std.specs.Prelude.{◌≡◌, ◌≢◌, ◌∷◌, [], MatchOption, OnOk};
+ghost use Rattle.lines.specs.Words.{texts, words_left, usage_of, IfExpected, OkOrExpected, Spells, SpellsNone, FirstSpells, NoNumber, SpellEach, OneSpellsNone, SpellsToSlash, NoListToSlash};
 
 use crate::fault::Fault;
 use std::alloc::Global;
@@ -62,7 +62,7 @@ impl<'a> Words<'a> {
     pub fn number<T: FromStr>(&mut self, expected: &'static str) -> Result<T, Fault>
     where
         T::Err: Drop,
-        ensures cases { MatchResult result (FirstSpells T.from_str_gives (words_left self.old) (words_left self.new)) (λ fault. IfExpected fault (NoNumber T.from_str_gives (usage_of self.old) expected.entry.now (words_left self.old))) }
+        ensures cases { OkOrExpected result (FirstSpells T.from_str_gives (words_left self.old) (words_left self.new)) (NoNumber T.from_str_gives (usage_of self.old) expected.entry.now (words_left self.old)) }
         ensures usage { usage_of self.new ≡ usage_of self.old }
     {
         match self.next() {
@@ -75,15 +75,15 @@ impl<'a> Words<'a> {
     pub fn numbers<T: FromStr + Drop>(&mut self, expected: &'static str) -> Result<Vec<T>, Fault>
     where
         T::Err: Drop,
-        ensures cases { MatchResult result (λ list. SpellEach T.from_str_gives (words_left self.old) list.items) (λ fault. IfExpected fault (λ text. OneSpellsNone T.from_str_gives (words_left self.old) × (text ≡ expected.entry.now))) }
+        ensures cases { OkOrExpected result (λ list. SpellEach T.from_str_gives (words_left self.old) list.items) (λ text. OneSpellsNone T.from_str_gives (words_left self.old) × (text ≡ expected.entry.now)) }
         ensures all { OnOk result (words_left self.new ≡ []) }
         ensures usage { usage_of self.new ≡ usage_of self.old }
     {
-        let mut list = Vec::new(self.heap);
+        let mut numbers = Vec::new(self.heap);
         while let Some(word) = self.next() {
-            list.push(spelled(word, expected)?)?;
+            numbers.push(spelled(word, expected)?)?;
         }
-        Ok(list)
+        Ok(numbers)
     }
 
     // The numbers that the words before a `/` spell.
@@ -93,7 +93,7 @@ impl<'a> Words<'a> {
     ) -> Result<Vec<T>, Fault>
     where
         T::Err: Drop,
-        ensures cases { MatchResult result (λ list. SpellsToSlash T.from_str_gives (words_left self.old) (words_left self.new) list.items) (λ fault. IfExpected fault (NoListToSlash T.from_str_gives (usage_of self.old) expected.entry.now (words_left self.old))) }
+        ensures cases { OkOrExpected result (λ list. SpellsToSlash T.from_str_gives (words_left self.old) (words_left self.new) list.items) (NoListToSlash T.from_str_gives (usage_of self.old) expected.entry.now (words_left self.old)) }
         ensures usage { usage_of self.new ≡ usage_of self.old }
     {
         let mut list = Vec::new(self.heap);
@@ -108,7 +108,7 @@ impl<'a> Words<'a> {
 
     // Nothing may be left on the line.
     pub fn end(&mut self) -> Result<(), Fault>
-        ensures cases { MatchResult result (λ unit. words_left self.old ≡ []) (λ fault. IfExpected fault (λ text. (words_left self.old ≢ []) × (text ≡ usage_of self.old))) }
+        ensures cases { OkOrExpected result (λ unit. words_left self.old ≡ []) (λ text. (words_left self.old ≢ []) × (text ≡ usage_of self.old)) }
     {
         match self.next() {
             Some(_) => Err(self.unexpected()),
@@ -121,7 +121,7 @@ impl<'a> Words<'a> {
 fn spelled<T: FromStr>(word: &str, expected: &'static str) -> Result<T, Fault>
 where
     T::Err: Drop,
-    ensures { MatchResult result (Spells T.from_str_gives word.now) (λ fault. IfExpected fault (λ text. SpellsNone T.from_str_gives word.now × (text ≡ expected.entry.now))) }
+    ensures { OkOrExpected result (Spells T.from_str_gives word.now) (λ text. SpellsNone T.from_str_gives word.now × (text ≡ expected.entry.now)) }
 {
     word.parse().map_err(|_| Fault::Expected(expected))
 }

@@ -5,7 +5,7 @@ use Rattle.lines.proofs.words.Words.numbers.Given as goal
 
 abbrev pub invariant-loop-word : goal.invariant-loop-word
 invariant-loop-word g l = record {
-  taken : Taken g.T.FromStr.from_str_gives (words_left l.initial.self) (words_left l.self) l.list.items;
+  taken : Taken g.T.FromStr.from_str_gives (words_left l.initial.self) (words_left l.self) l.numbers.items;
   usage : usage_of l.self ≡ usage_of l.initial.self;
 }
 
