@@ -7,7 +7,7 @@ use Rattle.std.proofs.lemmas.Bool.{false≢true}
 use Rattle.std.proofs.lemmas.Slice.Eq.{bytes_eq-Decides}
 use Rattle.lines.specs.declared.fault.Fault.{Fault}
 use Rattle.lines.specs.declared.fault.Fault.TheVariants.{Expected, Memory}
-use Rattle.lines.specs.Words.{Text, IfExpected, Spells, SpellsNone, SpellEach, OneSpellsNone, IsNoSlash, slash, SpellsToSlash, OneBeforeSlashSpellsNone, NoSlashAtAll, NoListToSlash}
+use Rattle.lines.specs.Words.{Text, FaultSays, Spells, SpellsNone, SpellEach, OneSpellsNone, IsNoSlash, slash, SpellsToSlash, OneBeforeSlashSpellsNone, NoSlashAtAll, NoListToSlash}
 
 -- the words before those that are left, and the numbers that they spell
 pub record Taken {T E : Type 0} (gives : Text → Result T E → Type 0) (words rest : List Text) (numbers : List T) : Type 0 where
@@ -88,6 +88,6 @@ no_slash_at_all gives words left numbers h e =
 pub unlike_slash : (b : Bool) (word : Text) → b ≡ bytes_eq word slash → b ≡ false → IsNoSlash word
 unlike_slash b word e n is = absurd (false≢true (sym n ∙ (e ∙ (bytes_eq-Decides word slash).1 is)))
 
-pub refused_before_slash : {T E : Type 0} (gives : Text → Result T E → Type 0) (usage own : Text) (fault : Fault) (words left rest : List Text) (numbers : List T) (word : Text) → TakenBeforeSlash gives words left numbers → left ≡ word ∷ rest → IsNoSlash word → IfExpected fault (λ text. SpellsNone gives word × (text ≡ own)) → IfExpected fault (NoListToSlash gives usage own words)
+pub refused_before_slash : {T E : Type 0} (gives : Text → Result T E → Type 0) (usage own : Text) (fault : Fault) (words left rest : List Text) (numbers : List T) (word : Text) → TakenBeforeSlash gives words left numbers → left ≡ word ∷ rest → IsNoSlash word → FaultSays ⊥ fault (λ text. SpellsNone gives word × (text ≡ own)) → FaultSays (Unit {0}) fault (NoListToSlash gives usage own words)
 refused_before_slash gives usage own (Expected text) words left rest numbers word h e unlike w = inr (wrong_before_slash gives words left rest numbers word h e unlike w.0, w.1)
 refused_before_slash gives usage own Memory words left rest numbers word h e unlike w = tt

@@ -3,7 +3,7 @@ use Rattle.std.specs.Prelude.{◌≡◌, ◌≢◌, ℕ, ℤ, List, [], ◌∷�
 use Rattle.lines.specs.declared.kernel_line.KernelLine.{KernelLine}
 use Rattle.lines.specs.declared.kernel_line.KernelLine.TheVariants.{Facts, Pack, Unpack, Step, Steps, Drain}
 use Rattle.lines.specs.declared.fault.Fault.{Fault}
-use Rattle.lines.specs.Words.{Text, OkOrExpected, Spells, SpellEach, FirstSpells, SpellsToSlash}
+use Rattle.lines.specs.Words.{Text, OkOrFault, Spells, SpellEach, FirstSpells, SpellsToSlash}
 use Rattle.lines.specs.Parts.{unsigned, signed, letter, Part, number_part, numbers_part, to_slash_part, side_part, end_part, FailsIn}
 
 -- the command of a line
@@ -78,7 +78,7 @@ row_parts usage = number_part (unsigned 64) usage row_text ∷ end_part usage �
 -- a line of that command, or the part at which its words fail
 abbrev pub Parses : Text → List Part → List Text → Result KernelLine Fault → Type 0
 Parses command parts words result =
-    OkOrExpected result (λ line. (command_of line ≡ command) × Says line words) (FailsIn parts words)
+    OkOrFault result (λ line. (command_of line ≡ command) × Says line words) (FailsIn parts words)
 
 -- why the words after a command are refused, and with which text
 abbrev pub Refused : Text → List Text → Text → Type 0

@@ -22,14 +22,18 @@ words_left words = texts words.left.now
 abbrev pub usage_of : Words → Text
 usage_of words = words.usage.now
 
--- what is said of the text that was expected; a lack of memory says nothing
-abbrev pub IfExpected : Fault → (Text → Type 0) → Type 0
-IfExpected (Expected text) P = P text.now
-IfExpected Memory P = Unit {0}
+-- what is said of the text that was expected, and what of a lack of memory
+abbrev pub FaultSays : Type 0 → Fault → (Text → Type 0) → Type 0
+FaultSays memory (Expected text) P = P text.now
+FaultSays memory Memory P = memory
 
--- what is said of a value, and of the text where another line was expected
+-- a value, or else another line was expected; memory cannot lack
 abbrev pub OkOrExpected : {A : Type 0} → Result A Fault → (A → Type 0) → (Text → Type 0) → Type 0
-OkOrExpected result P Q = MatchResult result P (λ fault. IfExpected fault Q)
+OkOrExpected result P Q = MatchResult result P (λ fault. FaultSays ⊥ fault Q)
+
+-- the same, where memory may lack
+abbrev pub OkOrFault : {A : Type 0} → Result A Fault → (A → Type 0) → (Text → Type 0) → Type 0
+OkOrFault result P Q = MatchResult result P (λ fault. FaultSays (Unit {0}) fault Q)
 
 -- ---- numbers, as the type's `from_str` gives them
 

@@ -1,6 +1,6 @@
 // The lines that ask something of the current kernel.
 ghost use Rattle.std.specs.Prelude.{◌≡◌, ◌∷◌, [], MatchOption, codes};
-ghost use Rattle.lines.specs.Words.{words_left, usage_of, OkOrExpected};
+ghost use Rattle.lines.specs.Words.{words_left, usage_of, OkOrExpected, OkOrFault};
 ghost use Rattle.lines.specs.Parts.{letter, NoSide, FailsIn};
 ghost use Rattle.lines.specs.KernelLines.{command_of, IsNoCommand, Says, SaysRow, Parses, Refused, facts_parts, pack_parts, unpack_parts, step_parts, row_parts};
 
@@ -36,7 +36,7 @@ pub enum KernelLine {
 impl KernelLine {
     // Takes the words after the command; none where there is no such command.
     pub fn parse(command: &str, words: &mut Words<'_>) -> Result<Option<KernelLine>, Fault>
-        ensures { OkOrExpected result (λ found. MatchOption found (IsNoCommand command.now) (λ line. (command.now ≡ command_of line) × Says line (words_left words.old))) (Refused command.now (words_left words.old)) }
+        ensures { OkOrFault result (λ found. MatchOption found (IsNoCommand command.now) (λ line. (command.now ≡ command_of line) × Says line (words_left words.old))) (Refused command.now (words_left words.old)) }
     {
         let line = match command {
             "facts" => facts(words)?,

@@ -1,6 +1,6 @@
 // The words of a line, and the numbers that they spell.
 ghost use Rattle.std.specs.Prelude.{◌≡◌, ◌≢◌, ◌∷◌, [], MatchOption, OnOk};
-ghost use Rattle.lines.specs.Words.{texts, words_left, usage_of, IfExpected, OkOrExpected, Spells, SpellsNone, FirstSpells, NoNumber, SpellEach, OneSpellsNone, SpellsToSlash, NoListToSlash};
+ghost use Rattle.lines.specs.Words.{texts, words_left, usage_of, FaultSays, OkOrExpected, OkOrFault, Spells, SpellsNone, FirstSpells, NoNumber, SpellEach, OneSpellsNone, SpellsToSlash, NoListToSlash};
 
 use crate::fault::Fault;
 use std::alloc::Global;
@@ -42,7 +42,7 @@ impl<'a> Words<'a> {
 
     // The line is not what it should be.
     pub fn unexpected(&self) -> Fault
-        ensures { IfExpected result (λ text. text ≡ usage_of self.now) }
+        ensures { FaultSays ⊥ result (λ text. text ≡ usage_of self.now) }
     {
         Fault::Expected(self.usage)
     }
@@ -75,7 +75,7 @@ impl<'a> Words<'a> {
     pub fn numbers<T: FromStr + Drop>(&mut self, expected: &'static str) -> Result<Vec<T>, Fault>
     where
         T::Err: Drop,
-        ensures cases { OkOrExpected result (λ list. SpellEach T.from_str_gives (words_left self.old) list.items) (λ text. OneSpellsNone T.from_str_gives (words_left self.old) × (text ≡ expected.entry.now)) }
+        ensures cases { OkOrFault result (λ list. SpellEach T.from_str_gives (words_left self.old) list.items) (λ text. OneSpellsNone T.from_str_gives (words_left self.old) × (text ≡ expected.entry.now)) }
         ensures all { OnOk result (words_left self.new ≡ []) }
         ensures usage { usage_of self.new ≡ usage_of self.old }
     {
@@ -93,7 +93,7 @@ impl<'a> Words<'a> {
     ) -> Result<Vec<T>, Fault>
     where
         T::Err: Drop,
-        ensures cases { OkOrExpected result (λ list. SpellsToSlash T.from_str_gives (words_left self.old) (words_left self.new) list.items) (NoListToSlash T.from_str_gives (usage_of self.old) expected.entry.now (words_left self.old)) }
+        ensures cases { OkOrFault result (λ list. SpellsToSlash T.from_str_gives (words_left self.old) (words_left self.new) list.items) (NoListToSlash T.from_str_gives (usage_of self.old) expected.entry.now (words_left self.old)) }
         ensures usage { usage_of self.new ≡ usage_of self.old }
     {
         let mut list = Vec::new(self.heap);
