@@ -1,11 +1,7 @@
 // The console: a text line in, a text line out. It reads standard input to its end.
 #![tactic(auto)]
 
-mod fault;
-mod kernel_line;
-mod plan_line;
 mod session;
-mod words;
 
 use session::Session;
 use std::io::{BufRead, BufReader};

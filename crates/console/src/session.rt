@@ -2,10 +2,10 @@
 ghost use Rattle.console.specs.Replies.{PlanText};
 ghost use Rattle.replies.specs.Texts.{reply_text};
 
-use crate::fault::Fault;
-use crate::kernel_line::KernelLine;
-use crate::plan_line::PlanLine;
-use crate::words::Words;
+use lines::fault::Fault;
+use lines::kernel_line::KernelLine;
+use lines::plan_line::PlanLine;
+use lines::words::Words;
 use kernels::planned::Planned;
 use lanes::p1::P1;
 use lanes::p2::P2;
@@ -51,7 +51,8 @@ impl Session {
 
     fn take_line(&mut self, bytes: &[u8]) -> Result<Option<Reply>, Fault> {
         let text = std::str::from_utf8(bytes).map_err(|_| Fault::Expected("text in UTF-8"))?;
-        let mut words = Words::of(self.heap, text, COMMANDS);
+        let list: Vec<&str> = text.split_ascii_whitespace().collect(self.heap)?;
+        let mut words = Words::of(self.heap, list.as_slice(), COMMANDS);
         let Some(command) = words.next() else {
             return Ok(None);
         };
@@ -84,8 +85,8 @@ impl Session {
 
     fn take_kernel_line(&mut self, line: &KernelLine) -> Result<Reply, Fault> {
         let reply = match &mut self.current {
-            Some(Current::P1(kernel)) => respond(self.heap, kernel, line.ask())?,
-            Some(Current::P2(kernel)) => respond(self.heap, kernel, line.ask())?,
+            Some(Current::P1(kernel)) => respond(self.heap, kernel, line)?,
+            Some(Current::P2(kernel)) => respond(self.heap, kernel, line)?,
             None => return Err(Fault::Expected(NO_KERNEL)),
         };
         Ok(reply)

@@ -1,4 +1,4 @@
--- What a kernel replies to what it is asked, and what it means afterwards.
+-- What a kernel replies to a line, and what it means afterwards.
 use Rattle.std.specs.Prelude.{◌≡◌, ℕ, List, length, ℤ, Ok, Err, Result}
 use Rattle.codes.specs.declared.shape.Shape.{Shape}
 use Rattle.codes.specs.declared.side.Side.{Side}
@@ -10,8 +10,8 @@ use Rattle.kernels.specs.Groups.{Packing, Unpacking}
 use Rattle.kernels.specs.Answers.{row_answer, step_answer}
 use Rattle.kernels.specs.Lists.{words_for, packed_list, pack_list_answer, unpacked_list, unpack_list_answer}
 use Rattle.kernels.specs.Meanings.{Meaning, Stepped, Drained, gain_at}
-use Rattle.replies.specs.declared.ask.Ask.{Ask}
-use Rattle.replies.specs.declared.ask.Ask.TheVariants as ask
+use Rattle.lines.specs.declared.kernel_line.KernelLine.{KernelLine}
+use Rattle.lines.specs.declared.kernel_line.KernelLine.TheVariants as line
 use Rattle.replies.specs.declared.reply.Reply.{Reply}
 use Rattle.replies.specs.declared.reply.Reply.TheVariants.{Facts, Words, Codes, Stepped as SteppedReply, Steps, Total}
 use Rattle.replies.specs.Answers.{pack_refused, unpack_refused, row_refused, step_refused}
@@ -60,26 +60,26 @@ abbrev pub total_reply : Result ℤ RowRefusal → Reply
 total_reply (Ok total) = Total total
 total_reply (Err refusal) = row_refused refusal
 
--- ---- what is asked
+-- ---- what a line asks
 
 -- the reply of a kernel that packs and unpacks so and means m
-abbrev pub Replied : (packed : Shape → Packing) (unpacked : Shape → Unpacking) → Meaning → Ask → Reply → Type 0
-Replied packed unpacked m ask.Facts reply = reply ≡ Facts m.facts
-Replied packed unpacked m (ask.Pack side list) reply = PackReplied (packed m.facts.shape) m.facts.shape side list.now reply
-Replied packed unpacked m (ask.Unpack side n words) reply = UnpackReplied (unpacked m.facts.shape) m.facts.shape side n words.now reply
-Replied packed unpacked m (ask.Step row weights activations) reply =
-    reply ≡ step_reply (step_answer (gain_at (unpacked m.facts.shape) m row weights.now activations.now))
-Replied packed unpacked m (ask.Steps row) reply = reply ≡ steps_reply (row_answer row (m.steps row))
-Replied packed unpacked m (ask.Drain row) reply = reply ≡ total_reply (row_answer row (m.total row))
+abbrev pub Replied : (packed : Shape → Packing) (unpacked : Shape → Unpacking) → Meaning → KernelLine → Reply → Type 0
+Replied packed unpacked m line.Facts reply = reply ≡ Facts m.facts
+Replied packed unpacked m (line.Pack side list) reply = PackReplied (packed m.facts.shape) m.facts.shape side list.items reply
+Replied packed unpacked m (line.Unpack side n words) reply = UnpackReplied (unpacked m.facts.shape) m.facts.shape side n words.items reply
+Replied packed unpacked m (line.Step row weights activations) reply =
+    reply ≡ step_reply (step_answer (gain_at (unpacked m.facts.shape) m row weights.items activations.items))
+Replied packed unpacked m (line.Steps row) reply = reply ≡ steps_reply (row_answer row (m.steps row))
+Replied packed unpacked m (line.Drain row) reply = reply ≡ total_reply (row_answer row (m.total row))
 
 -- the reply is a list, which takes memory
-abbrev pub TakesMemory : Ask → Type 0
-TakesMemory (ask.Pack side list) = Unit {0}
-TakesMemory (ask.Unpack side n words) = Unit {0}
+abbrev pub TakesMemory : KernelLine → Type 0
+TakesMemory (line.Pack side list) = Unit {0}
+TakesMemory (line.Unpack side n words) = Unit {0}
 TakesMemory _ = ⊥
 
--- what is asked leads from the meaning m to n: only a step and a drain change it
-abbrev pub After : (unpacked : Shape → Unpacking) → Meaning → Ask → Meaning → Type 0
-After unpacked m (ask.Step row weights activations) n = Stepped row (gain_at (unpacked m.facts.shape) m row weights.now activations.now) m n
-After unpacked m (ask.Drain row) n = Drained row m n
+-- a line leads from the meaning m to n: only a step and a drain change it
+abbrev pub After : (unpacked : Shape → Unpacking) → Meaning → KernelLine → Meaning → Type 0
+After unpacked m (line.Step row weights activations) n = Stepped row (gain_at (unpacked m.facts.shape) m row weights.items activations.items) m n
+After unpacked m (line.Drain row) n = Drained row m n
 After unpacked m _ n = n ≡ m

@@ -1,37 +1,47 @@
-// What any kernel replies to what it is asked.
+// What any kernel replies to a line.
 ghost use Rattle.std.specs.Prelude.{◌≡◌, IfOk, OnErr};
 ghost use Rattle.replies.specs.Asks.{TakesMemory, Replied, PackReplied, UnpackReplied, After};
 
-use crate::ask::Ask;
 use crate::reply::Reply;
 use codes::side::Side;
 use kernels::kernel::Kernel;
 use kernels::lists::{pack_codes, unpack_codes, words_needed};
+use lines::kernel_line::KernelLine;
 use std::alloc::{AllocError, Global};
 
 // The most codes that a list may have.
 const MOST_CODES: usize = 65536;
 
 // Asks a kernel. Memory is needed for the lists of a reply alone; where there is none, the kernel is as it was.
-pub fn respond<K: Kernel>(heap: Global, kernel: &mut K, ask: Ask<'_>) -> Result<Reply, AllocError>
-    ensures reply { IfOk result (λ reply. Replied K.packed K.unpacked (K.means kernel.old) ask.entry reply) }
-    ensures memory { OnErr result (TakesMemory ask.entry) }
-    ensures after { After K.unpacked (K.means kernel.old) ask.entry (K.means kernel.new) }
+pub fn respond<K: Kernel>(
+    heap: Global,
+    kernel: &mut K,
+    line: &KernelLine,
+) -> Result<Reply, AllocError>
+    ensures reply { IfOk result (λ reply. Replied K.packed K.unpacked (K.means kernel.old) line.now reply) }
+    ensures memory { OnErr result (TakesMemory line.now) }
+    ensures after { After K.unpacked (K.means kernel.old) line.now (K.means kernel.new) }
 {
-    match ask {
-        Ask::Facts => Ok(Reply::Facts(kernel.facts())),
-        Ask::Pack { side, codes } => pack(heap, kernel, side, codes),
-        Ask::Unpack { side, count, words } => unpack(heap, kernel, side, count, words),
-        Ask::Step {
+    match line {
+        KernelLine::Facts => Ok(Reply::Facts(kernel.facts())),
+        KernelLine::Pack { side, codes } => pack(heap, kernel, *side, codes.as_slice()),
+        KernelLine::Unpack { side, count, words } => unpack(
+            heap,
+            kernel,
+            *side,
+            *count,
+            words.as_slice(),
+        ),
+        KernelLine::Step {
             row,
             weights,
             activations,
         } => {
-            let stepped = kernel.step(row, weights, activations);
+            let stepped = kernel.step(*row, weights.as_slice(), activations.as_slice());
             Ok(stepped.map_or_else(Reply::from, |()| Reply::Stepped))
         }
-        Ask::Steps { row } => Ok(kernel.steps(row).map_or_else(Reply::from, Reply::Steps)),
-        Ask::Drain { row } => Ok(kernel.drain(row).map_or_else(Reply::from, Reply::Total)),
+        KernelLine::Steps { row } => Ok(kernel.steps(*row).map_or_else(Reply::from, Reply::Steps)),
+        KernelLine::Drain { row } => Ok(kernel.drain(*row).map_or_else(Reply::from, Reply::Total)),
     }
 }
 

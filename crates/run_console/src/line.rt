@@ -1,8 +1,8 @@
 // A line that asks something of the current kernel or run.
-use crate::fault::Fault;
-use crate::kernel_line::KernelLine;
+use lines::fault::Fault;
+use lines::kernel_line::KernelLine;
 use crate::run_line::RunLine;
-use crate::words::Words;
+use lines::words::Words;
 
 #[derive(Drop)]
 pub(crate) enum Line {

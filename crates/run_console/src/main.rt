@@ -1,14 +1,10 @@
 // The console of all four kinds, with runs: a text line in, a text line out. It reads standard input to its end.
 #![tactic(auto)]
 
-mod fault;
-mod kernel_line;
 mod line;
-mod plan_line;
 mod run_line;
 mod session;
 mod state;
-mod words;
 
 use session::Session;
 use std::io::{BufRead, BufReader};

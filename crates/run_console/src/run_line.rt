@@ -1,6 +1,6 @@
 // The lines that are calls of a run.
-use crate::fault::Fault;
-use crate::words::{COUNT, ROW, WORD, Words};
+use lines::fault::Fault;
+use lines::words::{COUNT, ROW, WORD, Words};
 use runs::calls::Call;
 
 #[derive(Drop)]

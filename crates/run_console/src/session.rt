@@ -2,11 +2,11 @@
 ghost use Rattle.run_console.specs.Replies.{PlanText};
 ghost use Rattle.replies.specs.Texts.{reply_text};
 
-use crate::fault::Fault;
+use lines::fault::Fault;
 use crate::line::Line;
-use crate::plan_line::PlanLine;
+use lines::plan_line::PlanLine;
 use crate::state::{NO_KERNEL, State};
-use crate::words::Words;
+use lines::words::Words;
 use kernels::planned::Planned;
 use lanes::p1::P1;
 use lanes::p2::P2;
@@ -54,7 +54,8 @@ impl Session {
 
     fn take_line(&mut self, bytes: &[u8]) -> Result<Option<Reply>, Fault> {
         let text = std::str::from_utf8(bytes).map_err(|_| Fault::Expected("text in UTF-8"))?;
-        let mut words = Words::of(self.heap, text, COMMANDS);
+        let list: Vec<&str> = text.split_ascii_whitespace().collect(self.heap)?;
+        let mut words = Words::of(self.heap, list.as_slice(), COMMANDS);
         let Some(command) = words.next() else {
             return Ok(None);
         };

@@ -2,7 +2,7 @@
 ghost use Rattle.run_console.specs.Replies.{CallAnswered};
 ghost use Rattle.replies.specs.Texts.{reply_text};
 
-use crate::fault::Fault;
+use lines::fault::Fault;
 use crate::line::Line;
 use kernels::kernel::Kernel;
 use replies::reply::Reply;
@@ -37,7 +37,7 @@ fn on_kernel<K: Kernel>(
 ) -> (State<K>, Result<Reply, Fault>) {
     match line {
         Line::Kernel(line) => {
-            let reply = respond(heap, &mut kernel, line.ask());
+            let reply = respond(heap, &mut kernel, line);
             (State::Kernel(kernel), reply.map_err(Fault::from))
         }
         Line::Open => (State::Run(replay(kernel, &[], &mut [])), Ok(Reply::Opened)),

@@ -1,20 +1,25 @@
 // The line `plan KIND X Y DEPTH INTERVAL ROWS LONGEST ZW ZA`.
-// Both consoles have this file: a library would have to publish calls with no statement of what they answer.
+ghost use Rattle.lines.specs.Words.{words_left, OkOrExpected};
+ghost use Rattle.lines.specs.PlanLines.{SaysPlan, plan_parts};
+ghost use Rattle.lines.specs.Parts.{FailsIn};
+
 use crate::fault::Fault;
 use crate::words::Words;
 use codes::zero_points::ZeroPoints;
 use plans::request::Request;
 
 // A request, and the number of the kind that it is put to.
-#[derive(Clone, Copy)]
-pub(crate) struct PlanLine {
-    pub(crate) kind: u16,
-    pub(crate) request: Request,
+#[derive(Clone, Copy, Debug, PartialEq, Eq)]
+pub struct PlanLine {
+    pub kind: u16,
+    pub request: Request,
 }
 
 impl PlanLine {
     // Takes the words after `plan`.
-    pub(crate) fn parse(words: &mut Words<'_>) -> Result<PlanLine, Fault> {
+    pub fn parse(words: &mut Words<'_>) -> Result<PlanLine, Fault>
+        ensures { OkOrExpected result (λ line. SaysPlan line (words_left words.old)) (FailsIn plan_parts (words_left words.old)) }
+    {
         words.should_be("plan KIND X Y DEPTH INTERVAL ROWS LONGEST ZW ZA");
         let kind = words.number("KIND from 0 to 65535")?;
         let weight_size = words.number("X from 0 to 65535")?;
@@ -23,7 +28,8 @@ impl PlanLine {
         let interval = words.number("INTERVAL from 0 to 4294967295")?;
         let rows = words.number("ROWS from 0 to 65535")?;
         let longest = words.number("LONGEST from 0 to 4294967295")?;
-        let zeros = parse_zeros(words)?;
+        let weight = words.number("ZW from -32768 to 32767")?;
+        let activation = words.number("ZA from -32768 to 32767")?;
         words.end()?;
         let request = Request {
             weight_size,
@@ -32,14 +38,8 @@ impl PlanLine {
             interval,
             rows,
             longest,
-            zeros,
+            zeros: ZeroPoints { weight, activation },
         };
         Ok(PlanLine { kind, request })
     }
-}
-
-fn parse_zeros(words: &mut Words<'_>) -> Result<ZeroPoints, Fault> {
-    let weight = words.number("ZW from -32768 to 32767")?;
-    let activation = words.number("ZA from -32768 to 32767")?;
-    Ok(ZeroPoints { weight, activation })
 }

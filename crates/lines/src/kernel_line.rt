@@ -1,12 +1,16 @@
 // The lines that ask something of the current kernel.
-// Both consoles have this file: a library would have to publish calls with no statement of what they answer.
+ghost use Rattle.std.specs.Prelude.{◌≡◌, ◌∷◌, [], MatchOption, codes};
+ghost use Rattle.lines.specs.Words.{words_left, usage_of, OkOrExpected, OkOrFault};
+ghost use Rattle.lines.specs.Parts.{letter, NoSide, FailsIn};
+ghost use Rattle.lines.specs.KernelLines.{command_of, IsNoCommand, Says, SaysRow, Parses, Refused, facts_parts, pack_parts, unpack_parts, step_parts, row_parts};
+
 use crate::fault::Fault;
 use crate::words::{COUNT, ROW, WORD, Words};
 use codes::side::Side;
 use replies::ask::Ask;
 
 #[derive(Drop)]
-pub(crate) enum KernelLine {
+pub enum KernelLine {
     Facts,
     Pack {
         side: Side,
@@ -32,7 +36,9 @@ pub(crate) enum KernelLine {
 
 impl KernelLine {
     // Takes the words after the command; none where there is no such command.
-    pub(crate) fn parse(command: &str, words: &mut Words<'_>) -> Result<Option<KernelLine>, Fault> {
+    pub fn parse(command: &str, words: &mut Words<'_>) -> Result<Option<KernelLine>, Fault>
+        ensures { OkOrFault result (λ found. MatchOption found (IsNoCommand command.now) (λ line. (command.now ≡ command_of line) × Says line (words_left words.old))) (Refused command.now (words_left words.old)) }
+    {
         let line = match command {
             "facts" => facts(words)?,
             "pack" => pack(words)?,
@@ -76,20 +82,26 @@ impl KernelLine {
     }
 }
 
-fn facts(words: &mut Words<'_>) -> Result<KernelLine, Fault> {
+fn facts(words: &mut Words<'_>) -> Result<KernelLine, Fault>
+    ensures { Parses (codes "facts") facts_parts (words_left words.old) result }
+{
     words.should_be("facts");
     words.end()?;
     Ok(KernelLine::Facts)
 }
 
-fn pack(words: &mut Words<'_>) -> Result<KernelLine, Fault> {
+fn pack(words: &mut Words<'_>) -> Result<KernelLine, Fault>
+    ensures { Parses (codes "pack") pack_parts (words_left words.old) result }
+{
     words.should_be("pack w CODE... or pack a CODE...");
     let side = side(words)?;
     let codes = words.numbers("codes from -32768 to 32767")?;
     Ok(KernelLine::Pack { side, codes })
 }
 
-fn unpack(words: &mut Words<'_>) -> Result<KernelLine, Fault> {
+fn unpack(words: &mut Words<'_>) -> Result<KernelLine, Fault>
+    ensures { Parses (codes "unpack") unpack_parts (words_left words.old) result }
+{
     words.should_be("unpack w N WORD... or unpack a N WORD...");
     let side = side(words)?;
     let count = words.number(COUNT)?;
@@ -101,7 +113,9 @@ fn unpack(words: &mut Words<'_>) -> Result<KernelLine, Fault> {
     })
 }
 
-fn step(words: &mut Words<'_>) -> Result<KernelLine, Fault> {
+fn step(words: &mut Words<'_>) -> Result<KernelLine, Fault>
+    ensures { Parses (codes "step") step_parts (words_left words.old) result }
+{
     words.should_be("step ROW WORD... / WORD...");
     let row = words.number(ROW)?;
     let weights = words.numbers_before_slash(WORD)?;
@@ -114,14 +128,19 @@ fn step(words: &mut Words<'_>) -> Result<KernelLine, Fault> {
 }
 
 // One row, and nothing behind it.
-fn row(words: &mut Words<'_>, usage: &'static str) -> Result<usize, Fault> {
+fn row(words: &mut Words<'_>, usage: &'static str) -> Result<usize, Fault>
+    ensures { OkOrExpected result (λ row. SaysRow row (words_left words.old)) (FailsIn (row_parts usage.entry.now) (words_left words.old)) }
+{
     words.should_be(usage);
     let row = words.number(ROW)?;
     words.end()?;
     Ok(row)
 }
 
-fn side(words: &mut Words<'_>) -> Result<Side, Fault> {
+fn side(words: &mut Words<'_>) -> Result<Side, Fault>
+    ensures cases { OkOrExpected result (λ side. words_left words.old ≡ letter side ∷ words_left words.new) (NoSide (usage_of words.old) (words_left words.old)) }
+    ensures usage { usage_of words.new ≡ usage_of words.old }
+{
     match words.next() {
         Some("w") => Ok(Side::Weights),
         Some("a") => Ok(Side::Activations),
