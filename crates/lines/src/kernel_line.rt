@@ -7,7 +7,6 @@ ghost use Rattle.lines.specs.KernelLines.{command_of, IsNoCommand, Says, SaysRow
 use crate::fault::Fault;
 use crate::words::{COUNT, ROW, WORD, Words};
 use codes::side::Side;
-use replies::ask::Ask;
 
 #[derive(Drop)]
 pub enum KernelLine {
@@ -53,32 +52,6 @@ impl KernelLine {
             _ => return Ok(None),
         };
         Ok(Some(line))
-    }
-
-    pub(crate) fn ask(&self) -> Ask<'_> {
-        match self {
-            KernelLine::Facts => Ask::Facts,
-            KernelLine::Pack { side, codes } => Ask::Pack {
-                side: *side,
-                codes: codes.as_slice(),
-            },
-            KernelLine::Unpack { side, count, words } => Ask::Unpack {
-                side: *side,
-                count: *count,
-                words: words.as_slice(),
-            },
-            KernelLine::Step {
-                row,
-                weights,
-                activations,
-            } => Ask::Step {
-                row: *row,
-                weights: weights.as_slice(),
-                activations: activations.as_slice(),
-            },
-            KernelLine::Steps { row } => Ask::Steps { row: *row },
-            KernelLine::Drain { row } => Ask::Drain { row: *row },
-        }
     }
 }
 

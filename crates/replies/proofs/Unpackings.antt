@@ -14,7 +14,7 @@ use Rattle.kernels.specs.Groups.{Unpacking}
 use Rattle.kernels.specs.Answers.{ask}
 use Rattle.kernels.specs.Lists.{unpacked_list, bad_group, unpack_list_answer, codes_after}
 use Rattle.replies.specs.declared.reply.Reply.TheVariants.{Codes}
-use Rattle.replies.specs.Asks.{CodesOrRefused, UnpackReplied}
+use Rattle.replies.specs.Responses.{CodesOrRefused, UnpackReplied}
 
 passed : {E : Type 0} (y : Unit {0}) (b : Bool) (e : E) (next : Result (Unit {0}) E) → Ok y ≡ ask b e next → Ok y ≡ next
 passed y true e next h = h

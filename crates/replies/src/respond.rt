@@ -1,6 +1,6 @@
 // What any kernel replies to a line.
 ghost use Rattle.std.specs.Prelude.{◌≡◌, IfOk, OnErr};
-ghost use Rattle.replies.specs.Asks.{TakesMemory, Replied, PackReplied, UnpackReplied, After};
+ghost use Rattle.replies.specs.Responses.{TakesMemory, Replied, PackReplied, UnpackReplied, After};
 
 use crate::reply::Reply;
 use codes::side::Side;
