@@ -101,3 +101,27 @@ fn kernel_of(plan: AnyPlan) -> Option<Current> {
         AnyPlan::Planes(_) | AnyPlan::Split(_) => None,
     }
 }
+
+#[cfg(test)]
+mod tests {
+    use super::*;
+    use std::test::Fail;
+
+    // What `respond` ensures of lists holds where there is memory, and not that there is.
+    #[test]
+    fn lists_are_replied(rt: HostRuntime) -> Result<(), Fail> {
+        let heap = rt.alloc();
+        let mut session = Session::new(heap);
+        for (line, text) in [
+            ("plan 2 2 2 3 0 1 1 0 0", "accepted interval 4"),
+            ("pack w 1 2 3 1", "words 16643 16384"),
+            ("unpack w 4 16643 16384", "codes 1 2 3 1"),
+        ] {
+            match session.answer(1, line.as_bytes())? {
+                Some(reply) => assert_eq!(rt; reply.to_string(heap)?.as_str(), text),
+                None => panic!(rt; "no reply to {line}"),
+            }
+        }
+        Ok(())
+    }
+}
