@@ -1,14 +1,14 @@
 // The state of the console, and what it answers to a line.
-ghost use Rattle.console.specs.Replies.{PlanText};
+ghost use Rattle.replies.specs.Plans.{PlanText};
 ghost use Rattle.replies.specs.Texts.{reply_text};
 
+use kernels::planned::Planned;
+use lanes::p1::P1;
+use lanes::p2::P2;
 use lines::fault::Fault;
 use lines::kernel_line::KernelLine;
 use lines::plan_line::PlanLine;
 use lines::words::Words;
-use kernels::planned::Planned;
-use lanes::p1::P1;
-use lanes::p2::P2;
 use plans::any_plan::AnyPlan;
 use plans::request::Request;
 use replies::reply::Reply;
@@ -72,15 +72,11 @@ impl Session {
     fn take_plan(&mut self, kind: u16, request: &Request) -> Reply
         ensures { PlanText kind request.now (reply_text result) }
     {
-        match AnyPlan::check(kind, request) {
-            Ok(plan) => {
-                self.current = kernel_of(plan);
-                Reply::Accepted {
-                    interval: plan.facts().interval,
-                }
-            }
-            Err(refusal) => refusal.into(),
+        let answer = AnyPlan::check(kind, request);
+        if let Ok(plan) = answer {
+            self.current = kernel_of(plan);
         }
+        answer.into()
     }
 
     fn take_kernel_line(&mut self, line: &KernelLine) -> Result<Reply, Fault> {

@@ -1,9 +1,11 @@
-// The replies to refusals, and to the answers of a run.
+// The replies to plans, to refusals, and to the answers of a run.
 ghost use Rattle.std.specs.Prelude.{◌≡◌};
 ghost use Rattle.replies.specs.Answers.{plan_refused, pack_refused, unpack_refused, row_refused, step_refused, feed_refused, read_refused, answered};
+ghost use Rattle.replies.specs.Plans.{checked};
 
 use crate::reply::Reply;
 use kernels::refusal::{PackRefusal, RowRefusal, StepRefusal, UnpackRefusal};
+use plans::any_plan::AnyPlan;
 use plans::refusal::PlanRefusal;
 use runs::calls::Answer;
 use runs::refusal::{FeedRefusal, ReadRefusal};
@@ -14,6 +16,19 @@ impl From<PlanRefusal> for Reply {
     fn from(refusal: PlanRefusal) -> Reply {
         Reply::Refused {
             number: refusal.number(),
+        }
+    }
+}
+
+impl From<Result<AnyPlan, PlanRefusal>> for Reply {
+    ghost from_gives = { λ answer reply. reply ≡ checked answer };
+
+    fn from(answer: Result<AnyPlan, PlanRefusal>) -> Reply {
+        match answer {
+            Ok(plan) => Reply::Accepted {
+                interval: plan.facts().interval,
+            },
+            Err(refusal) => refusal.into(),
         }
     }
 }

@@ -1,7 +1,7 @@
 // A line that asks something of the current kernel or run.
+use crate::run_line::RunLine;
 use lines::fault::Fault;
 use lines::kernel_line::KernelLine;
-use crate::run_line::RunLine;
 use lines::words::Words;
 
 #[derive(Drop)]

@@ -1,15 +1,15 @@
 // The state of the console, and what it answers to a line.
-ghost use Rattle.run_console.specs.Replies.{PlanText};
+ghost use Rattle.replies.specs.Plans.{PlanText};
 ghost use Rattle.replies.specs.Texts.{reply_text};
 
-use lines::fault::Fault;
 use crate::line::Line;
-use lines::plan_line::PlanLine;
 use crate::state::{NO_KERNEL, State};
-use lines::words::Words;
 use kernels::planned::Planned;
 use lanes::p1::P1;
 use lanes::p2::P2;
+use lines::fault::Fault;
+use lines::plan_line::PlanLine;
+use lines::words::Words;
 use planes::planes::Planes;
 use plans::any_plan::AnyPlan;
 use plans::request::Request;
@@ -73,15 +73,11 @@ impl Session {
     fn take_plan(&mut self, kind: u16, request: &Request) -> Reply
         ensures { PlanText kind request.now (reply_text result) }
     {
-        match AnyPlan::check(kind, request) {
-            Ok(plan) => {
-                self.current = Some(plan.into());
-                Reply::Accepted {
-                    interval: plan.facts().interval,
-                }
-            }
-            Err(refusal) => refusal.into(),
+        let answer = AnyPlan::check(kind, request);
+        if let Ok(plan) = answer {
+            self.current = Some(plan.into());
         }
+        answer.into()
     }
 
     // What is current is moved out for the line, and moved back.

@@ -2,9 +2,9 @@
 ghost use Rattle.run_console.specs.Replies.{CallAnswered};
 ghost use Rattle.replies.specs.Texts.{reply_text};
 
-use lines::fault::Fault;
 use crate::line::Line;
 use kernels::kernel::Kernel;
+use lines::fault::Fault;
 use replies::reply::Reply;
 use replies::respond::respond;
 use runs::calls::{Answer, Call};
