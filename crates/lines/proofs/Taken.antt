@@ -1,6 +1,6 @@
 -- What a loop over the words of a line has taken.
-use Rattle.std.proofs.Common.{◌≡◌, ◌≢◌, ℕ, List, [], ◌∷◌, ◌++◌, length, refl, sym, ap, ◌∙◌, append_assoc, append-nil, Ok, Err, Result, inr}
-use Rattle.std.specs.Prelude.{Bool, true, false}
+use Rattle.std.proofs.Common.{◌≡◌, List, [], ◌∷◌, ◌++◌, refl, sym, ap, ◌∙◌, append_assoc, append-nil, Result, inr}
+use Rattle.std.specs.Prelude.{Bool, false}
 use Rattle.std.specs.List.{AllByRecursion}
 use Rattle.std.specs.Str.{bytes_eq}
 use Rattle.std.proofs.lemmas.Bool.{false≢true}
@@ -62,7 +62,6 @@ one_more_before_slash gives words left rest numbers more word v h e unlike one m
   taken = one_more gives words left rest numbers more word v h.taken e one m;
   no_slash = no_slash_more h.taken.before word h.no_slash unlike;
 }
-
 
 pub to_slash : {T E : Type 0} (gives : Text → Result T E → Type 0) (words left rest : List Text) (numbers : List T) (word : Text) → TakenBeforeSlash gives words left numbers → left ≡ word ∷ rest → word ≡ slash → SpellsToSlash gives words rest numbers
 to_slash gives words left rest numbers word h e is = record {

@@ -1,9 +1,9 @@
 -- What a kernel line says of the words after its command, and why they are refused.
-use Rattle.std.specs.Prelude.{◌≡◌, ◌≢◌, ℕ, ℤ, List, [], ◌∷◌, ◌++◌, ◌⊎◌, Result, codes}
+use Rattle.std.specs.Prelude.{◌≡◌, ◌≢◌, ℕ, List, [], ◌∷◌, ◌⊎◌, Result, codes}
 use Rattle.lines.specs.declared.kernel_line.KernelLine.{KernelLine}
 use Rattle.lines.specs.declared.kernel_line.KernelLine.TheVariants.{Facts, Pack, Unpack, Step, Steps, Drain}
 use Rattle.lines.specs.declared.fault.Fault.{Fault}
-use Rattle.lines.specs.Words.{Text, OkOrFault, Spells, SpellEach, FirstSpells, SpellsToSlash}
+use Rattle.lines.specs.Words.{Text, OkOrFault, Spells, SpellEach, SpellsToSlash}
 use Rattle.lines.specs.Parts.{unsigned, signed, letter, Part, number_part, numbers_part, to_slash_part, side_part, end_part, FailsIn}
 
 -- the command of a line

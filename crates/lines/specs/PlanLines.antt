@@ -1,5 +1,5 @@
 -- What a plan line says of the words after `plan`, and why they are refused.
-use Rattle.std.specs.Prelude.{◌≡◌, ℕ, List, [], ◌∷◌, codes}
+use Rattle.std.specs.Prelude.{◌≡◌, List, [], ◌∷◌, codes}
 use Rattle.lines.specs.declared.plan_line.PlanLine.{PlanLine}
 use Rattle.lines.specs.Words.{Text, Spells}
 use Rattle.lines.specs.Parts.{unsigned, signed, Part, number_part, end_part}

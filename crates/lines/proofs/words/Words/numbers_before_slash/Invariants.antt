@@ -1,6 +1,5 @@
 use Rattle.std.proofs.Common.{◌≡◌, length}
-use Rattle.std.specs.Prelude.{All}
-use Rattle.lines.specs.Words.{words_left, usage_of, IsNoSlash}
+use Rattle.lines.specs.Words.{words_left, usage_of}
 use Rattle.lines.proofs.Taken.{TakenBeforeSlash}
 use Rattle.lines.proofs.words.Words.numbers_before_slash.Given as goal
 
