@@ -131,19 +131,16 @@ mod tests {
         let spelled = ["0", "258", "3", "/", "65535"];
         let mut words = Words::of(rt.alloc(), &spelled, "a line");
         let line = KernelLine::parse("step", &mut words)?;
-        let Some(
-            KernelLine::Step {
-                row,
-                weights,
-                activations,
-            },
-        ) = line
-        else {
+        let Some(KernelLine::Step {
+            row,
+            weights: first,
+            activations: second,
+        }) = line else {
             return Err(Fail::new("no step line"));
         };
         assert_eq!(rt; row, 0);
-        assert_eq!(rt; weights.as_slice(), [258, 3].as_slice());
-        assert_eq!(rt; activations.as_slice(), [65535].as_slice());
+        assert_eq!(rt; first.as_slice(), [258, 3].as_slice());
+        assert_eq!(rt; second.as_slice(), [65535].as_slice());
         Ok(())
     }
 }
