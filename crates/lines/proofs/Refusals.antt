@@ -3,7 +3,7 @@ use Rattle.std.proofs.Common.{◌≡◌, ◌≢◌, List, [], ◌∷◌, ◌++�
 use Rattle.lines.specs.declared.fault.Fault.{Fault}
 use Rattle.lines.specs.declared.fault.Fault.TheVariants.{Expected, Memory}
 use Rattle.lines.specs.Words.{Text, FaultSays, FirstSpells, NoNumber}
-use Rattle.lines.specs.PlanLines.{zero_parts}
+use Rattle.lines.specs.PlanLines.{bound_parts, zero_parts}
 use Rattle.lines.specs.Parts.{Part, number_part, end_part, FailsIn}
 
 pub at_first : (part : Part) (parts : List Part) (words : List Text) (memory : Type 0) (fault : Fault) → FaultSays memory fault (part.refused words) → FaultSays memory fault (FailsIn (part ∷ parts) words)
@@ -46,4 +46,9 @@ in_two a b parts words Memory h = h
 pub stop_at_zeros : {usage usage' : Text} (parts : List Part) (words : List Text) (fault : Fault) → usage' ≡ usage → FaultSays ⊥ fault (FailsIn (zero_parts usage') words) → FaultSays ⊥ fault (FailsIn (zero_parts usage ++ parts) words)
 stop_at_zeros {usage} {usage'} parts words fault u h =
     let P : Text → Type 0 = λ x. FaultSays ⊥ fault (FailsIn (zero_parts x) words) in
+    in_two _ _ parts words fault (subst P u h)
+
+pub stop_at_bounds : {usage usage' : Text} (parts : List Part) (words : List Text) (fault : Fault) → usage' ≡ usage → FaultSays ⊥ fault (FailsIn (bound_parts usage') words) → FaultSays ⊥ fault (FailsIn (bound_parts usage ++ parts) words)
+stop_at_bounds {usage} {usage'} parts words fault u h =
+    let P : Text → Type 0 = λ x. FaultSays ⊥ fault (FailsIn (bound_parts x) words) in
     in_two _ _ parts words fault (subst P u h)

@@ -1,5 +1,5 @@
 -- What a plan line says of the words after `plan`, and why they are refused.
-use Rattle.std.specs.Prelude.{◌≡◌, List, [], ◌∷◌, codes}
+use Rattle.std.specs.Prelude.{◌≡◌, ℕ, List, [], ◌∷◌, codes}
 use Rattle.codes.specs.declared.zero_points.ZeroPoints.{ZeroPoints}
 use Rattle.lines.specs.declared.plan_line.PlanLine.{PlanLine}
 use Rattle.lines.specs.Words.{Text, Spells, FirstSpells}
@@ -27,6 +27,12 @@ pub record SaysPlan (line : PlanLine) (words : List Text) : Type 0 where
   pub spells_weight_zero : Spells signed weight_zero line.request.zeros.weight
   pub spells_activation_zero : Spells signed activation_zero line.request.zeros.activation
 
+-- two words, which spell the rows and the most columns, and the rest behind them
+pub record SpellsBounds (words rest : List Text) (bounds : ℕ × ℕ) : Type 0 where
+  pub between : List Text
+  pub rows : FirstSpells (unsigned 16) words between bounds.0
+  pub longest : FirstSpells (unsigned 32) between rest bounds.1
+
 -- two words, which spell the zero points, and the rest behind them
 pub record SpellsZeros (words rest : List Text) (zeros : ZeroPoints) : Type 0 where
   pub between : List Text
@@ -37,6 +43,12 @@ pub record SpellsZeros (words rest : List Text) (zeros : ZeroPoints) : Type 0 wh
 
 abbrev pub plan_usage : Text
 plan_usage = codes "plan KIND X Y DEPTH INTERVAL ROWS LONGEST ZW ZA"
+
+abbrev pub bound_parts : Text → List Part
+bound_parts usage =
+    number_part (unsigned 16) usage (codes "ROWS from 0 to 65535")
+    ∷ number_part (unsigned 32) usage (codes "LONGEST from 0 to 4294967295")
+    ∷ []
 
 abbrev pub zero_parts : Text → List Part
 zero_parts usage =

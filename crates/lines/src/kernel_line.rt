@@ -131,11 +131,14 @@ mod tests {
         let spelled = ["0", "258", "3", "/", "65535"];
         let mut words = Words::of(rt.alloc(), &spelled, "a line");
         let line = KernelLine::parse("step", &mut words)?;
-        let Some(KernelLine::Step {
-            row,
-            weights: first,
-            activations: second,
-        }) = line else {
+        let Some(
+            KernelLine::Step {
+                row,
+                weights: first,
+                activations: second,
+            },
+        ) = line
+        else {
             return Err(Fail::new("no step line"));
         };
         assert_eq!(rt; row, 0);
