@@ -1,8 +1,9 @@
 -- At which part a line is refused.
-use Rattle.std.proofs.Common.{◌≡◌, ◌≢◌, List, [], ◌∷◌, inl, inr, subst, ap, ◌∙◌, Result}
+use Rattle.std.proofs.Common.{◌≡◌, ◌≢◌, List, [], ◌∷◌, ◌++◌, inl, inr, subst, ap, ◌∙◌, Result}
 use Rattle.lines.specs.declared.fault.Fault.{Fault}
 use Rattle.lines.specs.declared.fault.Fault.TheVariants.{Expected, Memory}
 use Rattle.lines.specs.Words.{Text, FaultSays, FirstSpells, NoNumber}
+use Rattle.lines.specs.PlanLines.{bound_parts, zero_parts}
 use Rattle.lines.specs.Parts.{Part, number_part, end_part, FailsIn}
 
 pub at_first : (part : Part) (parts : List Part) (words : List Text) (memory : Type 0) (fault : Fault) → FaultSays memory fault (part.refused words) → FaultSays memory fault (FailsIn (part ∷ parts) words)
@@ -33,3 +34,21 @@ stop_at_end words {usage} {usage'} memory fault u h =
 -- a word before words that are known
 pub joined : {words rest more : List Text} (word : Text) → words ≡ word ∷ rest → rest ≡ more → words ≡ word ∷ more
 joined {words} {rest} {more} word e f = e ∙ ap (λ xs. word ∷ xs) f
+
+-- at one of two parts, with more behind them
+in_two : (a b : Part) (parts : List Part) (words : List Text) (fault : Fault) → FaultSays ⊥ fault (FailsIn (a ∷ b ∷ []) words) → FaultSays ⊥ fault (FailsIn (a ∷ b ∷ parts) words)
+unfolding FailsIn
+in_two a b parts words (Expected text) (inl x) = inl x
+in_two a b parts words (Expected text) (inr (rest, begins, inl x)) = inr (rest, begins, inl x)
+in_two a b parts words (Expected text) (inr (rest, begins, inr (_, _, never))) = absurd never
+in_two a b parts words Memory h = h
+
+pub stop_at_zeros : {usage usage' : Text} (parts : List Part) (words : List Text) (fault : Fault) → usage' ≡ usage → FaultSays ⊥ fault (FailsIn (zero_parts usage') words) → FaultSays ⊥ fault (FailsIn (zero_parts usage ++ parts) words)
+stop_at_zeros {usage} {usage'} parts words fault u h =
+    let P : Text → Type 0 = λ x. FaultSays ⊥ fault (FailsIn (zero_parts x) words) in
+    in_two _ _ parts words fault (subst P u h)
+
+pub stop_at_bounds : {usage usage' : Text} (parts : List Part) (words : List Text) (fault : Fault) → usage' ≡ usage → FaultSays ⊥ fault (FailsIn (bound_parts usage') words) → FaultSays ⊥ fault (FailsIn (bound_parts usage ++ parts) words)
+stop_at_bounds {usage} {usage'} parts words fault u h =
+    let P : Text → Type 0 = λ x. FaultSays ⊥ fault (FailsIn (bound_parts x) words) in
+    in_two _ _ parts words fault (subst P u h)

@@ -1,10 +1,8 @@
 -- What a loop over the words of a line has taken.
 use Rattle.std.proofs.Common.{◌≡◌, List, [], ◌∷◌, ◌++◌, refl, sym, ap, ◌∙◌, append_assoc, append-nil, Result, inr}
-use Rattle.std.specs.Prelude.{Bool, false}
+use Rattle.std.specs.Prelude.{Bool, false, IsTrue, ◌↔◌}
 use Rattle.std.specs.List.{AllByRecursion}
-use Rattle.std.specs.Str.{bytes_eq}
 use Rattle.std.proofs.lemmas.Bool.{false≢true}
-use Rattle.std.proofs.lemmas.Slice.Eq.{bytes_eq-Decides}
 use Rattle.lines.specs.declared.fault.Fault.{Fault}
 use Rattle.lines.specs.declared.fault.Fault.TheVariants.{Expected, Memory}
 use Rattle.lines.specs.Words.{Text, FaultSays, Spells, SpellsNone, SpellEach, OneSpellsNone, IsNoSlash, slash, SpellsToSlash, OneBeforeSlashSpellsNone, NoSlashAtAll, NoListToSlash}
@@ -84,8 +82,8 @@ no_slash_at_all gives words left numbers h e =
     let whole : words ≡ h.taken.before = h.taken.parts ∙ (ap (λ xs. h.taken.before ++ xs) e ∙ append-nil h.taken.before) in
     rw whole record { numbers = numbers; spelled = h.taken.spelled; no_slash = h.no_slash }
 
-pub unlike_slash : (b : Bool) (word : Text) → b ≡ bytes_eq word slash → b ≡ false → IsNoSlash word
-unlike_slash b word e n is = absurd (false≢true (sym n ∙ (e ∙ (bytes_eq-Decides word slash).1 is)))
+pub unlike_slash : {b : Bool} {word : Text} → (IsTrue b ↔ (word ≡ slash)) → b ≡ false → IsNoSlash word
+unlike_slash h n is = absurd (false≢true (sym n ∙ h.1 is))
 
 pub refused_before_slash : {T E : Type 0} (gives : Text → Result T E → Type 0) (usage own : Text) (fault : Fault) (words left rest : List Text) (numbers : List T) (word : Text) → TakenBeforeSlash gives words left numbers → left ≡ word ∷ rest → IsNoSlash word → FaultSays ⊥ fault (λ text. SpellsNone gives word × (text ≡ own)) → FaultSays (Unit {0}) fault (NoListToSlash gives usage own words)
 refused_before_slash gives usage own (Expected text) words left rest numbers word h e unlike w = inr (wrong_before_slash gives words left rest numbers word h e unlike w.0, w.1)

@@ -59,8 +59,7 @@ fn facts(words: &mut Words<'_>) -> Result<KernelLine, Fault>
     ensures { Parses (codes "facts") facts_parts (words_left words.old) result }
 {
     words.should_be("facts");
-    words.end()?;
-    Ok(KernelLine::Facts)
+    words.end().map(|()| KernelLine::Facts)
 }
 
 fn pack(words: &mut Words<'_>) -> Result<KernelLine, Fault>
@@ -118,5 +117,30 @@ fn side(words: &mut Words<'_>) -> Result<Side, Fault>
         Some("w") => Ok(Side::Weights),
         Some("a") => Ok(Side::Activations),
         _ => Err(words.unexpected()),
+    }
+}
+
+#[cfg(test)]
+mod tests {
+    use super::*;
+    use std::test::Fail;
+
+    // The contracts say what a line holds, and not that there is memory for its lists.
+    #[test]
+    fn lists_are_taken(rt: HostRuntime) -> Result<(), Fail> {
+        let spelled = ["0", "258", "3", "/", "65535"];
+        let mut words = Words::of(rt.alloc(), &spelled, "a line");
+        let line = KernelLine::parse("step", &mut words)?;
+        let Some(KernelLine::Step {
+            row,
+            weights: first,
+            activations: second,
+        }) = line else {
+            return Err(Fail::new("no step line"));
+        };
+        assert_eq!(rt; row, 0);
+        assert_eq!(rt; first.as_slice(), [258, 3].as_slice());
+        assert_eq!(rt; second.as_slice(), [65535].as_slice());
+        Ok(())
     }
 }

@@ -1,6 +1,7 @@
 // The line `plan KIND X Y DEPTH INTERVAL ROWS LONGEST ZW ZA`.
-ghost use Rattle.lines.specs.Words.{words_left, OkOrExpected};
-ghost use Rattle.lines.specs.PlanLines.{SaysPlan, plan_parts};
+ghost use Rattle.std.specs.Prelude.{◌≡◌};
+ghost use Rattle.lines.specs.Words.{words_left, usage_of, OkOrExpected};
+ghost use Rattle.lines.specs.PlanLines.{SaysPlan, SpellsBounds, SpellsZeros, bound_parts, zero_parts, plan_parts};
 ghost use Rattle.lines.specs.Parts.{FailsIn};
 
 use crate::fault::Fault;
@@ -26,10 +27,8 @@ impl PlanLine {
         let activation_size = words.number("Y from 0 to 65535")?;
         let depth = words.number("DEPTH from 0 to 65535")?;
         let interval = words.number("INTERVAL from 0 to 4294967295")?;
-        let rows = words.number("ROWS from 0 to 65535")?;
-        let longest = words.number("LONGEST from 0 to 4294967295")?;
-        let weight = words.number("ZW from -32768 to 32767")?;
-        let activation = words.number("ZA from -32768 to 32767")?;
+        let (rows, longest) = bounds(words)?;
+        let zeros = zeros(words)?;
         words.end()?;
         let request = Request {
             weight_size,
@@ -38,8 +37,27 @@ impl PlanLine {
             interval,
             rows,
             longest,
-            zeros: ZeroPoints { weight, activation },
+            zeros,
         };
         Ok(PlanLine { kind, request })
     }
+}
+
+// The rows, and the most columns that a run may accept.
+fn bounds(words: &mut Words<'_>) -> Result<(u16, u32), Fault>
+    ensures cases { OkOrExpected result (SpellsBounds (words_left words.old) (words_left words.new)) (FailsIn (bound_parts (usage_of words.old)) (words_left words.old)) }
+    ensures usage { usage_of words.new ≡ usage_of words.old }
+{
+    let rows = words.number("ROWS from 0 to 65535")?;
+    let longest = words.number("LONGEST from 0 to 4294967295")?;
+    Ok((rows, longest))
+}
+
+fn zeros(words: &mut Words<'_>) -> Result<ZeroPoints, Fault>
+    ensures cases { OkOrExpected result (SpellsZeros (words_left words.old) (words_left words.new)) (FailsIn (zero_parts (usage_of words.old)) (words_left words.old)) }
+    ensures usage { usage_of words.new ≡ usage_of words.old }
+{
+    let weight = words.number("ZW from -32768 to 32767")?;
+    let activation = words.number("ZA from -32768 to 32767")?;
+    Ok(ZeroPoints { weight, activation })
 }

@@ -1,6 +1,6 @@
 // The words of a line, and the numbers that they spell.
-ghost use Rattle.std.specs.Prelude.{◌≡◌, ◌≢◌, ◌∷◌, [], MatchOption, OnOk};
-ghost use Rattle.lines.specs.Words.{texts, words_left, usage_of, FaultSays, OkOrExpected, OkOrFault, Spells, SpellsNone, FirstSpells, NoNumber, SpellEach, OneSpellsNone, SpellsToSlash, NoListToSlash};
+ghost use Rattle.std.specs.Prelude.{◌≡◌, ◌≢◌, ◌∷◌, ◌↔◌, [], MatchOption, OnOk, IsTrue};
+ghost use Rattle.lines.specs.Words.{texts, words_left, usage_of, FaultSays, OkOrExpected, OkOrFault, Spells, SpellsNone, FirstSpells, NoNumber, SpellEach, OneSpellsNone, SpellsToSlash, NoListToSlash, slash};
 
 use crate::fault::Fault;
 use std::alloc::Global;
@@ -98,7 +98,7 @@ impl<'a> Words<'a> {
     {
         let mut list = Vec::new(self.heap);
         while let Some(word) = self.next() {
-            if word == "/" {
+            if is_slash(word) {
                 return Ok(list);
             }
             list.push(spelled(word, expected)?)?;
@@ -115,6 +115,13 @@ impl<'a> Words<'a> {
             None => Ok(()),
         }
     }
+}
+
+// Whether a word is the slash between two lists.
+fn is_slash(word: &str) -> bool
+    ensures { IsTrue result ↔ (word.now ≡ slash) }
+{
+    word == "/"
 }
 
 // The number that a word spells.

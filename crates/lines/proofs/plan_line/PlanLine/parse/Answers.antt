@@ -1,6 +1,6 @@
-use Rattle.std.proofs.Common.{sym, ◌∙◌, rules}
+use Rattle.std.proofs.Common.{sym, ◌∙◌}
 use Rattle.std.proofs.lemmas.Result.{err_from_is_err_and}
-use Rattle.lines.proofs.Refusals.{past, stop, stop_at_end, joined}
+use Rattle.lines.proofs.Refusals.{past, stop, stop_at_bounds, stop_at_zeros, stop_at_end, joined}
 use Rattle.lines.proofs.plan_line.PlanLine.parse.Goals as goal
 
 pub returns-in_err-activation_size : goal.returns-in_err-activation_size
@@ -25,31 +25,19 @@ pub returns-in_err-rows : goal.returns-in_err-rows
 returns-in_err-rows c =
     let r = c.from_residual-in_err-rows in
     let p = err_from_is_err_and r.result r.ensures.1 in
-    rw (← c.should_be.ensures.left, p.1, p.2) (past _ _ _ ⊥ _ c.in_ok-kind.ensures.cases (past _ _ _ ⊥ _ c.in_ok-weight_size.ensures.cases (past _ _ _ ⊥ _ c.in_ok-activation_size.ensures.cases (past _ _ _ ⊥ _ c.in_ok-depth.ensures.cases (past _ _ _ ⊥ _ c.in_ok-interval.ensures.cases (stop _ _ _ _ ⊥ _ (c.number-5.ensures.usage ∙ (c.number-4.ensures.usage ∙ (c.number-3.ensures.usage ∙ (c.number-2.ensures.usage ∙ (c.number.ensures.usage ∙ c.should_be.ensures.usage))))) c.in_err-rows.ensures.cases))))))
+    rw (← c.should_be.ensures.left, p.1, p.2) (past _ _ _ ⊥ _ c.in_ok-kind.ensures.cases (past _ _ _ ⊥ _ c.in_ok-weight_size.ensures.cases (past _ _ _ ⊥ _ c.in_ok-activation_size.ensures.cases (past _ _ _ ⊥ _ c.in_ok-depth.ensures.cases (past _ _ _ ⊥ _ c.in_ok-interval.ensures.cases (stop_at_bounds _ _ _ (c.number-5.ensures.usage ∙ (c.number-4.ensures.usage ∙ (c.number-3.ensures.usage ∙ (c.number-2.ensures.usage ∙ (c.number.ensures.usage ∙ c.should_be.ensures.usage))))) c.in_err-rows.ensures.cases))))))
 
-pub returns-in_err-longest : goal.returns-in_err-longest
-returns-in_err-longest c =
-    let r = c.from_residual-in_err-longest in
+pub returns-in_err-zeros : goal.returns-in_err-zeros
+returns-in_err-zeros c =
+    let r = c.from_residual-in_err-zeros in
     let p = err_from_is_err_and r.result r.ensures.1 in
-    rw (← c.should_be.ensures.left, p.1, p.2) (past _ _ _ ⊥ _ c.in_ok-kind.ensures.cases (past _ _ _ ⊥ _ c.in_ok-weight_size.ensures.cases (past _ _ _ ⊥ _ c.in_ok-activation_size.ensures.cases (past _ _ _ ⊥ _ c.in_ok-depth.ensures.cases (past _ _ _ ⊥ _ c.in_ok-interval.ensures.cases (past _ _ _ ⊥ _ c.in_ok-rows.ensures.cases (stop _ _ _ _ ⊥ _ (c.number-6.ensures.usage ∙ (c.number-5.ensures.usage ∙ (c.number-4.ensures.usage ∙ (c.number-3.ensures.usage ∙ (c.number-2.ensures.usage ∙ (c.number.ensures.usage ∙ c.should_be.ensures.usage)))))) c.in_err-longest.ensures.cases)))))))
-
-pub returns-in_err-weight : goal.returns-in_err-weight
-returns-in_err-weight c =
-    let r = c.from_residual-in_err-weight in
-    let p = err_from_is_err_and r.result r.ensures.1 in
-    rw (← c.should_be.ensures.left, p.1, p.2) (past _ _ _ ⊥ _ c.in_ok-kind.ensures.cases (past _ _ _ ⊥ _ c.in_ok-weight_size.ensures.cases (past _ _ _ ⊥ _ c.in_ok-activation_size.ensures.cases (past _ _ _ ⊥ _ c.in_ok-depth.ensures.cases (past _ _ _ ⊥ _ c.in_ok-interval.ensures.cases (past _ _ _ ⊥ _ c.in_ok-rows.ensures.cases (past _ _ _ ⊥ _ c.in_ok-longest.ensures.cases (stop _ _ _ _ ⊥ _ (c.number-7.ensures.usage ∙ (c.number-6.ensures.usage ∙ (c.number-5.ensures.usage ∙ (c.number-4.ensures.usage ∙ (c.number-3.ensures.usage ∙ (c.number-2.ensures.usage ∙ (c.number.ensures.usage ∙ c.should_be.ensures.usage))))))) c.in_err-weight.ensures.cases))))))))
-
-pub returns-in_err-activation : goal.returns-in_err-activation
-returns-in_err-activation c =
-    let r = c.from_residual-in_err-activation in
-    let p = err_from_is_err_and r.result r.ensures.1 in
-    rw (← c.should_be.ensures.left, p.1, p.2) (past _ _ _ ⊥ _ c.in_ok-kind.ensures.cases (past _ _ _ ⊥ _ c.in_ok-weight_size.ensures.cases (past _ _ _ ⊥ _ c.in_ok-activation_size.ensures.cases (past _ _ _ ⊥ _ c.in_ok-depth.ensures.cases (past _ _ _ ⊥ _ c.in_ok-interval.ensures.cases (past _ _ _ ⊥ _ c.in_ok-rows.ensures.cases (past _ _ _ ⊥ _ c.in_ok-longest.ensures.cases (past _ _ _ ⊥ _ c.in_ok-weight.ensures.cases (stop _ _ _ _ ⊥ _ (c.number-8.ensures.usage ∙ (c.number-7.ensures.usage ∙ (c.number-6.ensures.usage ∙ (c.number-5.ensures.usage ∙ (c.number-4.ensures.usage ∙ (c.number-3.ensures.usage ∙ (c.number-2.ensures.usage ∙ (c.number.ensures.usage ∙ c.should_be.ensures.usage)))))))) c.in_err-activation.ensures.cases)))))))))
+    rw (← c.should_be.ensures.left, p.1, p.2) (past _ _ _ ⊥ _ c.in_ok-kind.ensures.cases (past _ _ _ ⊥ _ c.in_ok-weight_size.ensures.cases (past _ _ _ ⊥ _ c.in_ok-activation_size.ensures.cases (past _ _ _ ⊥ _ c.in_ok-depth.ensures.cases (past _ _ _ ⊥ _ c.in_ok-interval.ensures.cases (past _ _ _ ⊥ _ c.in_ok-rows.ensures.cases.rows (past _ _ _ ⊥ _ c.in_ok-rows.ensures.cases.longest (stop_at_zeros _ _ _ (c.bounds.ensures.usage ∙ (c.number-5.ensures.usage ∙ (c.number-4.ensures.usage ∙ (c.number-3.ensures.usage ∙ (c.number-2.ensures.usage ∙ (c.number.ensures.usage ∙ c.should_be.ensures.usage)))))) c.in_err-zeros.ensures.cases))))))))
 
 pub returns-in_err-end : goal.returns-in_err-end
 returns-in_err-end c =
     let r = c.from_residual-in_err-end in
     let p = err_from_is_err_and r.result r.ensures.1 in
-    rw (← c.should_be.ensures.left, p.1, p.2) (past _ _ _ ⊥ _ c.in_ok-kind.ensures.cases (past _ _ _ ⊥ _ c.in_ok-weight_size.ensures.cases (past _ _ _ ⊥ _ c.in_ok-activation_size.ensures.cases (past _ _ _ ⊥ _ c.in_ok-depth.ensures.cases (past _ _ _ ⊥ _ c.in_ok-interval.ensures.cases (past _ _ _ ⊥ _ c.in_ok-rows.ensures.cases (past _ _ _ ⊥ _ c.in_ok-longest.ensures.cases (past _ _ _ ⊥ _ c.in_ok-weight.ensures.cases (past _ _ _ ⊥ _ c.in_ok-activation.ensures.cases (stop_at_end _ ⊥ _ (c.number-9.ensures.usage ∙ (c.number-8.ensures.usage ∙ (c.number-7.ensures.usage ∙ (c.number-6.ensures.usage ∙ (c.number-5.ensures.usage ∙ (c.number-4.ensures.usage ∙ (c.number-3.ensures.usage ∙ (c.number-2.ensures.usage ∙ (c.number.ensures.usage ∙ c.should_be.ensures.usage))))))))) c.in_err-end.ensures.cases))))))))))
+    rw (← c.should_be.ensures.left, p.1, p.2) (past _ _ _ ⊥ _ c.in_ok-kind.ensures.cases (past _ _ _ ⊥ _ c.in_ok-weight_size.ensures.cases (past _ _ _ ⊥ _ c.in_ok-activation_size.ensures.cases (past _ _ _ ⊥ _ c.in_ok-depth.ensures.cases (past _ _ _ ⊥ _ c.in_ok-interval.ensures.cases (past _ _ _ ⊥ _ c.in_ok-rows.ensures.cases.rows (past _ _ _ ⊥ _ c.in_ok-rows.ensures.cases.longest (past _ _ _ ⊥ _ c.in_ok-zeros.ensures.cases.weight (past _ _ _ ⊥ _ c.in_ok-zeros.ensures.cases.activation (stop_at_end _ ⊥ _ (c.zeros.ensures.usage ∙ (c.bounds.ensures.usage ∙ (c.number-5.ensures.usage ∙ (c.number-4.ensures.usage ∙ (c.number-3.ensures.usage ∙ (c.number-2.ensures.usage ∙ (c.number.ensures.usage ∙ c.should_be.ensures.usage))))))) c.in_err-end.ensures.cases))))))))))
 
 pub returns : goal.returns
 returns c = record {
@@ -58,18 +46,18 @@ returns c = record {
   activation_size = c.in_ok-activation_size.ensures.cases.word;
   depth = c.in_ok-depth.ensures.cases.word;
   interval = c.in_ok-interval.ensures.cases.word;
-  rows = c.in_ok-rows.ensures.cases.word;
-  longest = c.in_ok-longest.ensures.cases.word;
-  weight_zero = c.in_ok-weight.ensures.cases.word;
-  activation_zero = c.in_ok-activation.ensures.cases.word;
-  parts = sym c.should_be.ensures.left ∙ joined _ c.in_ok-kind.ensures.cases.parts (joined _ c.in_ok-weight_size.ensures.cases.parts (joined _ c.in_ok-activation_size.ensures.cases.parts (joined _ c.in_ok-depth.ensures.cases.parts (joined _ c.in_ok-interval.ensures.cases.parts (joined _ c.in_ok-rows.ensures.cases.parts (joined _ c.in_ok-longest.ensures.cases.parts (joined _ c.in_ok-weight.ensures.cases.parts (joined _ c.in_ok-activation.ensures.cases.parts (c.in_ok-end.ensures.cases)))))))));
+  rows = c.in_ok-rows.ensures.cases.rows.word;
+  longest = c.in_ok-rows.ensures.cases.longest.word;
+  weight_zero = c.in_ok-zeros.ensures.cases.weight.word;
+  activation_zero = c.in_ok-zeros.ensures.cases.activation.word;
+  parts = sym c.should_be.ensures.left ∙ joined _ c.in_ok-kind.ensures.cases.parts (joined _ c.in_ok-weight_size.ensures.cases.parts (joined _ c.in_ok-activation_size.ensures.cases.parts (joined _ c.in_ok-depth.ensures.cases.parts (joined _ c.in_ok-interval.ensures.cases.parts (joined _ c.in_ok-rows.ensures.cases.rows.parts (joined _ c.in_ok-rows.ensures.cases.longest.parts (joined _ c.in_ok-zeros.ensures.cases.weight.parts (joined _ c.in_ok-zeros.ensures.cases.activation.parts (c.in_ok-end.ensures.cases)))))))));
   spells_kind = c.in_ok-kind.ensures.cases.spelled;
   spells_weight_size = c.in_ok-weight_size.ensures.cases.spelled;
   spells_activation_size = c.in_ok-activation_size.ensures.cases.spelled;
   spells_depth = c.in_ok-depth.ensures.cases.spelled;
   spells_interval = c.in_ok-interval.ensures.cases.spelled;
-  spells_rows = c.in_ok-rows.ensures.cases.spelled;
-  spells_longest = c.in_ok-longest.ensures.cases.spelled;
-  spells_weight_zero = search rules;
-  spells_activation_zero = search rules;
+  spells_rows = c.in_ok-rows.ensures.cases.rows.spelled;
+  spells_longest = c.in_ok-rows.ensures.cases.longest.spelled;
+  spells_weight_zero = c.in_ok-zeros.ensures.cases.weight.spelled;
+  spells_activation_zero = c.in_ok-zeros.ensures.cases.activation.spelled;
 }

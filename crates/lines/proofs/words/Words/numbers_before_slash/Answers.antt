@@ -9,11 +9,11 @@ loop-word-init g c = record { taken = none_before_slash _ _ _ c.new-list.ensures
 pub returns-in_err-spelled-clause-cases : goal.returns-in_err-spelled-clause-cases
 returns-in_err-spelled-clause-cases g c =
     let p = err_from_is_err_and c.from_residual.result c.from_residual.ensures.1 in
-    rw (p.1, p.2) (refused_before_slash _ _ _ _ _ _ _ _ _ c.loop-word.invariant.taken c.in-Some.ensures.word (unlike_slash _ _ c.eq.ensures c.if-eq.false) c.in_err-spelled.ensures)
+    rw (p.1, p.2) (refused_before_slash _ _ _ _ _ _ _ _ _ c.loop-word.invariant.taken c.in-Some.ensures.word (unlike_slash c.is_slash.ensures c.if-is_slash.false) c.in_err-spelled.ensures)
 
 pub loop-word-preserved : goal.loop-word-preserved
 loop-word-preserved g c =
     record {
-      taken = one_more_before_slash _ _ _ _ _ _ _ _ c.loop-word.invariant.taken c.in-Some.ensures.word (unlike_slash _ _ c.eq.ensures c.if-eq.false) c.in_ok-spelled.ensures (search rules);
+      taken = one_more_before_slash _ _ _ _ _ _ _ _ c.loop-word.invariant.taken c.in-Some.ensures.word (unlike_slash c.is_slash.ensures c.if-is_slash.false) c.in_ok-spelled.ensures (search rules);
       usage = search rules;
     }
