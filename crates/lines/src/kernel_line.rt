@@ -38,6 +38,7 @@ impl KernelLine {
     pub fn parse(command: &str, words: &mut Words<'_>) -> Result<Option<KernelLine>, Fault>
         ensures { OkOrFault result (λ found. MatchOption found (IsNoCommand command.now) (λ line. (command.now ≡ command_of line) × Says line (words_left words.old))) (Refused command.now (words_left words.old)) }
     {
+        // A match and no table of functions: each command makes a line of another shape.
         let line = match command {
             "facts" => facts(words)?,
             "pack" => pack(words)?,
@@ -109,6 +110,7 @@ fn row(words: &mut Words<'_>, usage: &'static str) -> Result<usize, Fault>
     Ok(row)
 }
 
+// The letters are the consoles' own, so `Side` has no `FromStr` that reads them.
 fn side(words: &mut Words<'_>) -> Result<Side, Fault>
     ensures cases { OkOrExpected result (λ side. words_left words.old ≡ letter side ∷ words_left words.new) (NoSide (usage_of words.old) (words_left words.old)) }
     ensures usage { usage_of words.new ≡ usage_of words.old }
@@ -131,11 +133,14 @@ mod tests {
         let spelled = ["0", "258", "3", "/", "65535"];
         let mut words = Words::of(rt.alloc(), &spelled, "a line");
         let line = KernelLine::parse("step", &mut words)?;
-        let Some(KernelLine::Step {
-            row,
-            weights: first,
-            activations: second,
-        }) = line else {
+        let Some(
+            KernelLine::Step {
+                row,
+                weights: first,
+                activations: second,
+            },
+        ) = line
+        else {
             return Err(Fail::new("no step line"));
         };
         assert_eq!(rt; row, 0);

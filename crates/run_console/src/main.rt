@@ -1,4 +1,5 @@
-// The console of all four kinds, with runs: a text line in, a text line out. It reads standard input to its end.
+// The console of all four kinds, with runs: a text line in, a text line out. It reads standard input to its end, as
+// `console` does, a program of its own.
 #![tactic(auto)]
 
 mod line;
@@ -14,6 +15,7 @@ fn main(rt: HostRuntime) -> anyhow::Result<()> {
     let mut session = Session::new(heap);
     let mut input = BufReader::new(heap, rt.stdin())?;
     let mut bytes = Vec::new(heap);
+    // Lines are read as bytes, since one that is no UTF-8 is counted and answered too; a reader has no `split`.
     for line in 1..u64::MAX {
         bytes.clear();
         if input.read_until(b'\n', &mut bytes)? == 0 {

@@ -21,6 +21,7 @@ pub(crate) enum RunLine {
 impl RunLine {
     // Takes the words after the command; none where there is no such command.
     pub(crate) fn parse(command: &str, words: &mut Words<'_>) -> Result<Option<RunLine>, Fault> {
+        // A match and no table of functions: each command makes a line of another shape.
         let line = match command {
             "feed" => feed(words)?,
             "read" => read(words)?,

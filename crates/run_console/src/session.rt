@@ -1,4 +1,5 @@
-// The state of the console, and what it answers to a line.
+// The state of the console, and what it answers to a line. `console` has a session of its own, since it knows other lines
+// and other kernels.
 ghost use Rattle.replies.specs.Plans.{PlanText};
 ghost use Rattle.replies.specs.Texts.{reply_text};
 

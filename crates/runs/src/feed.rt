@@ -5,7 +5,8 @@ ghost use Rattle.runs.specs.Passes.{DrainedInto, StepsInto, StepsRow, FeedsRow};
 use crate::kept::RowRecord;
 use kernels::kernel::Kernel;
 
-// Takes the groups of a row in, and the sum of its weight codes. Answers the drains that it made.
+// Takes the groups of a row in, and the sum of its weight codes. Answers the drains that it made, which are counted. The
+// words are those of one row and of all activations, cut anew at each turn, and the record is lent for that turn alone.
 pub(crate) fn feed_row<K: Kernel>(
     kernel: &mut K,
     row: usize,
