@@ -96,7 +96,7 @@ pub record SpellsToSlash {T E : Type 0} (gives : Text → Result T E → Type 0)
   pub no_slash : AllByRecursion IsNoSlash before
   pub spelled : SpellEach gives before numbers
 
--- the same, with no slash up to that word
+-- the first of the words that spells no number, with no slash up to it
 pub record OneBeforeSlashSpellsNone {T E : Type 0} (gives : Text → Result T E → Type 0) (words : List Text) : Type 0 where
   pub first : OneSpellsNone gives words
   pub no_slash : AllByRecursion IsNoSlash first.before

@@ -1,5 +1,5 @@
 // The lines that ask something of the current kernel.
-ghost use Rattle.std.specs.Prelude.{◌≡◌, ◌∷◌, [], MatchOption, codes};
+ghost use Rattle.std.specs.Prelude.{◌≡◌, ◌∷◌, [], MatchOption, IfOk, codes};
 ghost use Rattle.lines.specs.Words.{words_left, usage_of, OkOrExpected, OkOrFault};
 ghost use Rattle.lines.specs.Parts.{letter, NoSide, FailsIn};
 ghost use Rattle.lines.specs.KernelLines.{command_of, IsNoCommand, Says, SaysRow, Parses, Refused, facts_parts, pack_parts, unpack_parts, step_parts, row_parts};
@@ -36,7 +36,8 @@ pub enum KernelLine {
 impl KernelLine {
     // Takes the words after the command; none where there is no such command.
     pub fn parse(command: &str, words: &mut Words<'_>) -> Result<Option<KernelLine>, Fault>
-        ensures { OkOrFault result (λ found. MatchOption found (IsNoCommand command.now) (λ line. (command.now ≡ command_of line) × Says line (words_left words.old))) (Refused command.now (words_left words.old)) }
+        ensures cases { OkOrFault result (λ found. MatchOption found (IsNoCommand command.now) (λ line. (command.now ≡ command_of line) × Says line (words_left words.old))) (Refused command.now (words_left words.old)) }
+        ensures untouched { IfOk result (λ found. MatchOption found ((words_left words.new ≡ words_left words.old) × (usage_of words.new ≡ usage_of words.old)) (λ line. Unit {0})) }
     {
         // A match and no table of functions: each command makes a line of another shape.
         let line = match command {
