@@ -131,12 +131,6 @@ module _ (unpacked : List ℕ → Option (List ℤ)) (m w count n : ℕ) (words 
       let t : take (min n (g * m)) codes ≡ codes = take_all (min n (g * m)) codes (omega (arith, mul-le count m g m e (omega arith))) in
       sym (ap (λ y. take (min n (g * m)) codes ++ y) none ∙ append-nil (take (min n (g * m)) codes) ∙ t) ∙ r.whole
 
--- a list by sizes that are those of another shape
-pub list_at : (unpacked : List ℕ → Option (List ℤ)) (m w size width n : ℕ) (words : List ℕ) → m ≡ size → w ≡ width
-    → unpacked_groups unpacked m w 0 (groups m n) n words ≡ unpacked_groups unpacked size width 0 (groups size n) n words
-list_at unpacked m w size width n words e h =
-    ap (λ x. unpacked_groups unpacked x w 0 (groups x n) n words) e ∙ ap (λ y. unpacked_groups unpacked size y 0 (groups size n) n words) h
-
 -- ---- what the answer says
 
 err_not_ok : {T E : Type 0} (e : E) (x : T) → ◌≡◌ {A = Result T E} (Err e) (Ok x) → ⊥

@@ -14,7 +14,7 @@ use codes::facts::Facts;
 use codes::side::Side;
 
 // The most codes that a list may have.
-const MOST_CODES: usize = 65536;
+pub const MOST_CODES: usize = 65536;
 
 // Packs a list of codes into exactly the words that it needs. A refusal leaves the words as they were.
 pub fn pack_codes<K: Kernel>(

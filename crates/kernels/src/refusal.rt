@@ -2,7 +2,8 @@
 ghost use Rattle.std.specs.Prelude.{◌≡◌};
 ghost use Rattle.kernels.specs.Refusals.{pack_number, unpack_number, code_number, row_number, step_number};
 
-// Codes are not packed. Cases that hold places have no numbers of their own to cast, so `number` gives them, here and below.
+// Codes are not packed. Cases that hold places have no numbers of their own to cast, so `number` gives them,
+// here and of `UnpackRefusal`.
 #[derive(Clone, Copy, Debug, PartialEq, Eq)]
 pub enum PackRefusal {
     // No codes, or more than may be packed at once.

@@ -52,6 +52,7 @@ impl<M: LaneMake> Kernel for LaneKernel<M> {
         self.lanes.facts
     }
 
+    // These calls stand in each make: a function for them would be no shorter.
     fn steps(&self, row: usize) -> Result<u32, RowRefusal> {
         self.rows
             .get(row)

@@ -13,7 +13,7 @@ pub trait LaneMake: PlanKind {
 
     ghost width: { Shape → ℕ };
 
-    // The bits of a lane of a plan's words. Lanes of that width hold what the codes of the plan can give.
+    // The bits of a lane of a plan's words, by a formula of each make. Lanes of that width hold what the codes of the plan can give.
     fn lane_width(plan: &Plan<Self>) -> u32
         ensures { (f : Facts) → FactsOf Self.KIND plan.now.numbers f → Ready Self.Accumulator.bits f result (width f.shape) plan.now.numbers.depth plan.now.numbers.weight_size plan.now.numbers.activation_size };
 }

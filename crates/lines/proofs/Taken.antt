@@ -1,11 +1,11 @@
 -- What a loop over the words of a line has taken.
-use Rattle.std.proofs.Common.{◌≡◌, List, [], ◌∷◌, ◌++◌, refl, sym, ap, ◌∙◌, append_assoc, append-nil, Result, inr}
+use Rattle.std.proofs.Common.{◌≡◌, List, [], ◌∷◌, ◌++◌, refl, sym, ap, ◌∙◌, append_assoc, Result, inr}
 use Rattle.std.specs.Prelude.{Bool, false, IsTrue, ◌↔◌}
 use Rattle.std.specs.List.{AllByRecursion}
 use Rattle.std.proofs.lemmas.Bool.{false≢true}
 use Rattle.lines.specs.declared.fault.Fault.{Fault}
 use Rattle.lines.specs.declared.fault.Fault.TheVariants.{Expected, Memory}
-use Rattle.lines.specs.Words.{Text, FaultSays, Spells, SpellsNone, SpellEach, OneSpellsNone, IsNoSlash, slash, SpellsToSlash, OneBeforeSlashSpellsNone, NoSlashAtAll, NoListToSlash}
+use Rattle.lines.specs.Words.{Text, FaultSays, Spells, SpellsNone, SpellEach, OneSpellsNone, IsNoSlash, slash, OneBeforeSlashSpellsNone, NoListToSlash}
 
 -- the words before those that are left, and the numbers that they spell
 pub record Taken {T E : Type 0} (gives : Text → Result T E → Type 0) (words rest : List Text) (numbers : List T) : Type 0 where
@@ -25,11 +25,6 @@ one_more gives words left rest numbers more word v h e one m = record {
   parts = h.parts ∙ (ap (λ xs. h.before ++ xs) e ∙ sym (append_assoc h.before (word ∷ []) rest));
   spelled = rw m (each_more gives h.before numbers word v h.spelled one);
 }
-
-pub all_taken : {T E : Type 0} (gives : Text → Result T E → Type 0) (words left : List Text) (numbers : List T) → Taken gives words left numbers → left ≡ [] → SpellEach gives words numbers
-all_taken gives words left numbers h e =
-    let whole : words ≡ h.before = h.parts ∙ (ap (λ xs. h.before ++ xs) e ∙ append-nil h.before) in
-    rw whole h.spelled
 
 pub one_wrong : {T E : Type 0} (gives : Text → Result T E → Type 0) (words left rest : List Text) (numbers : List T) (word : Text) → Taken gives words left numbers → left ≡ word ∷ rest → SpellsNone gives word → OneSpellsNone gives words
 one_wrong gives words left rest numbers word h e wrong = record {
@@ -61,14 +56,6 @@ one_more_before_slash gives words left rest numbers more word v h e unlike one m
   no_slash = no_slash_more h.taken.before word h.no_slash unlike;
 }
 
-pub to_slash : {T E : Type 0} (gives : Text → Result T E → Type 0) (words left rest : List Text) (numbers : List T) (word : Text) → TakenBeforeSlash gives words left numbers → left ≡ word ∷ rest → word ≡ slash → SpellsToSlash gives words rest numbers
-to_slash gives words left rest numbers word h e is = record {
-  before = h.taken.before;
-  parts = h.taken.parts ∙ (ap (λ xs. h.taken.before ++ xs) e ∙ ap (λ w. h.taken.before ++ (w ∷ rest)) is);
-  no_slash = h.no_slash;
-  spelled = h.taken.spelled;
-}
-
 pub wrong_before_slash : {T E : Type 0} (gives : Text → Result T E → Type 0) (words left rest : List Text) (numbers : List T) (word : Text) → TakenBeforeSlash gives words left numbers → left ≡ word ∷ rest → IsNoSlash word → SpellsNone gives word → OneBeforeSlashSpellsNone gives words
 unfolding one_wrong
 wrong_before_slash gives words left rest numbers word h e unlike wrong = record {
@@ -76,11 +63,6 @@ wrong_before_slash gives words left rest numbers word h e unlike wrong = record 
   no_slash = h.no_slash;
   no_slash_there = unlike;
 }
-
-pub no_slash_at_all : {T E : Type 0} (gives : Text → Result T E → Type 0) (words left : List Text) (numbers : List T) → TakenBeforeSlash gives words left numbers → left ≡ [] → NoSlashAtAll gives words
-no_slash_at_all gives words left numbers h e =
-    let whole : words ≡ h.taken.before = h.taken.parts ∙ (ap (λ xs. h.taken.before ++ xs) e ∙ append-nil h.taken.before) in
-    rw whole record { numbers = numbers; spelled = h.taken.spelled; no_slash = h.no_slash }
 
 pub unlike_slash : {b : Bool} {word : Text} → (IsTrue b ↔ (word ≡ slash)) → b ≡ false → IsNoSlash word
 unlike_slash h n is = absurd (false≢true (sym n ∙ h.1 is))

@@ -1,5 +1,5 @@
 // The lines that ask something of the current kernel.
-ghost use Rattle.std.specs.Prelude.{◌≡◌, ◌∷◌, [], MatchOption, IfOk, codes};
+ghost use Rattle.std.specs.Prelude.{◌≡◌, ◌∷◌, MatchOption, IfOk, codes};
 ghost use Rattle.lines.specs.Words.{words_left, usage_of, OkOrExpected, OkOrFault};
 ghost use Rattle.lines.specs.Parts.{letter, NoSide, FailsIn};
 ghost use Rattle.lines.specs.KernelLines.{command_of, IsNoCommand, Says, SaysRow, Parses, Refused, facts_parts, pack_parts, unpack_parts, step_parts, row_parts};

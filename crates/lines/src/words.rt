@@ -65,10 +65,8 @@ impl<'a> Words<'a> {
         ensures cases { OkOrExpected result (FirstSpells T.from_str_gives (words_left self.old) (words_left self.new)) (NoNumber T.from_str_gives (usage_of self.old) expected.entry.now (words_left self.old)) }
         ensures usage { usage_of self.new ≡ usage_of self.old }
     {
-        match self.next() {
-            Some(word) => spelled(word, expected),
-            None => Err(self.unexpected()),
-        }
+        let word = self.next().ok_or(self.unexpected())?;
+        spelled(word, expected)
     }
 
     // The numbers that the rest of the line spells.

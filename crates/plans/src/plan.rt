@@ -67,7 +67,7 @@ pub struct Plan<K: PlanKind> {
     ghost lane: { LaneHolds K.KIND numbers },
 }
 
-// A derive takes no generic type with ghost fields.
+// The derive is refused over ghost fields where `Copy` hangs on a parameter.
 impl<K: PlanKind + Copy> Clone for Plan<K> {
     ghost is_clone = { λ plan copy. copy ≡ plan };
 

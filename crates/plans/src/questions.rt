@@ -1,5 +1,5 @@
 // The questions of a plan check that are ranges of plain numbers, and the one on products.
-ghost use Rattle.std.specs.Prelude.{◌≡◌, ◌≤◌, MatchBool};
+ghost use Rattle.std.specs.Prelude.{◌≡◌, MatchBool};
 ghost use Rattle.codes.specs.Shapes.{ZerosWithin};
 ghost use Rattle.plans.specs.Questions.{largest_size, GoodSizes, GoodDepth, GoodCounts, BadProduct};
 

@@ -24,12 +24,12 @@ impl From<Result<AnyPlan, PlanRefusal>> for Reply {
     ghost from_gives = { λ answer reply. reply ≡ checked answer };
 
     fn from(answer: Result<AnyPlan, PlanRefusal>) -> Reply {
-        match answer {
-            Ok(plan) => Reply::Accepted {
+        answer.map_or_else(
+            Reply::from,
+            |plan| Reply::Accepted {
                 interval: plan.facts().interval,
             },
-            Err(refusal) => refusal.into(),
-        }
+        )
     }
 }
 
@@ -57,6 +57,7 @@ impl From<UnpackRefusal> for Reply {
     }
 }
 
+// This and the other refusals without places: one call of `number` each, on a type of its own.
 impl From<RowRefusal> for Reply {
     ghost from_gives = { λ refusal reply. reply ≡ row_refused refusal };
 

@@ -1,16 +1,13 @@
 // What any kernel replies to a line.
-ghost use Rattle.std.specs.Prelude.{◌≡◌, IfOk, OnErr};
+ghost use Rattle.std.specs.Prelude.{IfOk, OnErr};
 ghost use Rattle.replies.specs.Responses.{TakesMemory, Replied, PackReplied, UnpackReplied, After};
 
 use crate::reply::Reply;
 use codes::side::Side;
 use kernels::kernel::Kernel;
-use kernels::lists::{pack_codes, unpack_codes, words_needed};
+use kernels::lists::{MOST_CODES, pack_codes, unpack_codes, words_needed};
 use lines::kernel_line::KernelLine;
 use std::alloc::{AllocError, Global};
-
-// The most codes that a list may have.
-const MOST_CODES: usize = 65536;
 
 // Asks a kernel. Memory is needed for the lists of a reply alone; where there is none, the kernel is as it was.
 pub fn respond<K: Kernel>(
@@ -51,10 +48,8 @@ fn pack<K: Kernel>(heap: Global, kernel: &K, side: Side, codes: &[i16]) -> Resul
 {
     let needed = words_needed(&kernel.facts(), side, codes.len()).unwrap_or(0);
     let mut words = vec![in heap; 0u16; needed]?;
-    match pack_codes(kernel, side, codes, words.as_mut_slice()) {
-        Ok(()) => Ok(Reply::Words(words)),
-        Err(refusal) => Ok(refusal.into()),
-    }
+    let packed = pack_codes(kernel, side, codes, words.as_mut_slice());
+    Ok(packed.map_or_else(Reply::from, |()| Reply::Words(words)))
 }
 
 // One code more than a list may have is lent where more are asked for, so that the count is refused and not the memory.
@@ -69,8 +64,6 @@ fn unpack<K: Kernel>(
     ensures { IfOk result (λ reply. UnpackReplied (K.unpacked (K.means kernel.now).facts.shape) (K.means kernel.now).facts.shape side count words.now reply) }
 {
     let mut codes = vec![in heap; 0i16; count.min(MOST_CODES + 1)]?;
-    match unpack_codes(kernel, side, words, codes.as_mut_slice()) {
-        Ok(()) => Ok(Reply::Codes(codes)),
-        Err(refusal) => Ok(refusal.into()),
-    }
+    let unpacked = unpack_codes(kernel, side, words, codes.as_mut_slice());
+    Ok(unpacked.map_or_else(Reply::from, |()| Reply::Codes(codes)))
 }

@@ -22,9 +22,7 @@ impl Line {
         if let Some(line) = KernelLine::parse(command, words)? {
             return Ok(Line::Kernel(line));
         }
-        match RunLine::parse(command, words)? {
-            Some(line) => Ok(Line::Run(line)),
-            None => Err(words.unexpected()),
-        }
+        let line = RunLine::parse(command, words)?;
+        line.map(Line::Run).ok_or(words.unexpected())
     }
 }

@@ -46,11 +46,10 @@ impl Session {
 
     // The reply to a line, or none where it is blank or a comment.
     pub(crate) fn answer(&mut self, line: u64, bytes: &[u8]) -> Result<Option<Reply>, AllocError> {
-        match self.take_line(bytes) {
-            Ok(reply) => Ok(reply),
-            Err(Fault::Expected(what)) => Ok(Some(Reply::Expected { line, what })),
-            Err(Fault::Memory) => Err(AllocError),
-        }
+        self.take_line(bytes).or_else(|fault| match fault {
+            Fault::Expected(what) => Ok(Some(Reply::Expected { line, what })),
+            Fault::Memory => Err(AllocError),
+        })
     }
 
     fn take_line(&mut self, bytes: &[u8]) -> Result<Option<Reply>, Fault> {

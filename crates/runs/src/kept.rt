@@ -19,7 +19,8 @@ impl RowRecord {
     }
 }
 
-// A record for each row, in memory of a fixed size, the sum of the activation codes, the columns accepted, and the steps and drains of all rows.
+// A record for each row, in memory of a fixed size, the sum of the activation codes, the columns accepted, and the steps
+// and drains of all rows.
 #[derive(Drop)]
 pub(crate) struct Kept {
     pub(crate) rows: [RowRecord; 64],

@@ -1,7 +1,5 @@
 // Runs: open ones, which are fed, and settled ones, which are read.
-ghost use Rattle.std.specs.Prelude.{◌≡◌, ◌*◌, ◌<◌, ◌≤◌, [], length, ◌*ℤ◌};
-ghost use Rattle.codes.specs.declared.side.Side.TheVariants.{Weights, Activations};
-ghost use Rattle.kernels.specs.Lists.{words_for};
+ghost use Rattle.std.specs.Prelude.{◌≡◌, ◌*◌, ◌<◌, []};
 ghost use Rattle.runs.specs.Stories.{Story};
 ghost use Rattle.runs.specs.Feeds.{feed_columns, FeedPacks};
 ghost use Rattle.runs.specs.Tells.{Tells, TellsSettled, nothing_kept, record_at};

@@ -1,5 +1,5 @@
 // The questions of a feed, and the sums of the codes that its words pack.
-ghost use Rattle.std.specs.Prelude.{◌≡◌, ◌+◌, ◌*◌, ◌≤◌, ◌||◌, length, Ok, IfOk, nat_le, nat_lt};
+ghost use Rattle.std.specs.Prelude.{◌≡◌, ◌+◌, ◌*◌, ◌||◌, length, Ok, IfOk, nat_le, nat_lt};
 ghost use Rattle.codes.specs.declared.side.Side.TheVariants.{Weights};
 ghost use Rattle.codes.specs.Codes.{Range};
 ghost use Rattle.kernels.specs.Lists.{words_for, is_zero, first_codes, unpacked_list};
@@ -82,6 +82,7 @@ fn row_sums<K: Kernel>(kernel: &K, count: usize, weights: &[u16]) -> Result<[i64
     let facts = kernel.facts();
     let size = groups_taken(facts, count) * facts.shape.weight_words;
     let mut sums = [0i64; 64];
+    // The sums are indexed, since a `zip` over `iter_mut` leaves open what it wrote.
     for (row, words) in weights.chunks_exact(size).enumerate() {
         sums[row] = list_sum(kernel, Side::Weights, count, words).map_err(
             |group| FeedRefusal::Weights { row, group },
@@ -90,7 +91,7 @@ fn row_sums<K: Kernel>(kernel: &K, count: usize, weights: &[u16]) -> Result<[i64
     Ok(sums)
 }
 
-// The sum of the codes that the words of a list pack, or the first bad group.
+// The sum of the codes that the words of a list pack, or the first bad group: each caller has a refusal of its own for it.
 fn list_sum<K: Kernel>(kernel: &K, side: Side, count: usize, words: &[u16]) -> Result<i64, usize>
     requires exact { length words.now ≡ words_for (K.Kernel.means kernel.now).facts.shape side count }
     ensures { result ≡ list_total (unpacked_list (K.Kernel.unpacked (K.Kernel.means kernel.now).facts.shape) (K.Kernel.means kernel.now).facts.shape side count words.now) }
