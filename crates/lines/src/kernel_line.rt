@@ -1,5 +1,5 @@
 // The lines that ask something of the current kernel.
-ghost use Rattle.std.specs.Prelude.{◌≡◌, ◌∷◌, MatchOption, IfOk, codes};
+ghost use Rattle.std.specs.Prelude.{◌≡◌, ◌∷◌, [], MatchOption, IfOk, OnOk, codes};
 ghost use Rattle.lines.specs.Words.{words_left, usage_of, OkOrExpected, OkOrFault};
 ghost use Rattle.lines.specs.Parts.{letter, NoSide, FailsIn};
 ghost use Rattle.lines.specs.KernelLines.{command_of, IsNoCommand, Says, SaysRow, Parses, Refused, facts_parts, pack_parts, unpack_parts, step_parts, row_parts};
@@ -37,7 +37,7 @@ impl KernelLine {
     // Takes the words after the command; none where there is no such command.
     pub fn parse(command: &str, words: &mut Words<'_>) -> Result<Option<KernelLine>, Fault>
         ensures cases { OkOrFault result (λ found. MatchOption found (IsNoCommand command.now) (λ line. (command.now ≡ command_of line) × Says line (words_left words.old))) (Refused command.now (words_left words.old)) }
-        ensures untouched { IfOk result (λ found. MatchOption found ((words_left words.new ≡ words_left words.old) × (usage_of words.new ≡ usage_of words.old)) (λ line. Unit {0})) }
+        ensures left { IfOk result (λ found. MatchOption found ((words_left words.new ≡ words_left words.old) × (usage_of words.new ≡ usage_of words.old)) (λ line. words_left words.new ≡ [])) }
     {
         // A match and no table of functions: each command makes a line of another shape.
         let line = match command {
@@ -58,14 +58,16 @@ impl KernelLine {
 }
 
 fn facts(words: &mut Words<'_>) -> Result<KernelLine, Fault>
-    ensures { Parses (codes "facts") facts_parts (words_left words.old) result }
+    ensures cases { Parses (codes "facts") facts_parts (words_left words.old) result }
+    ensures all { OnOk result (words_left words.new ≡ []) }
 {
     words.should_be("facts");
     words.end().map(|()| KernelLine::Facts)
 }
 
 fn pack(words: &mut Words<'_>) -> Result<KernelLine, Fault>
-    ensures { Parses (codes "pack") pack_parts (words_left words.old) result }
+    ensures cases { Parses (codes "pack") pack_parts (words_left words.old) result }
+    ensures all { OnOk result (words_left words.new ≡ []) }
 {
     words.should_be("pack w CODE... or pack a CODE...");
     let side = side(words)?;
@@ -74,7 +76,8 @@ fn pack(words: &mut Words<'_>) -> Result<KernelLine, Fault>
 }
 
 fn unpack(words: &mut Words<'_>) -> Result<KernelLine, Fault>
-    ensures { Parses (codes "unpack") unpack_parts (words_left words.old) result }
+    ensures cases { Parses (codes "unpack") unpack_parts (words_left words.old) result }
+    ensures all { OnOk result (words_left words.new ≡ []) }
 {
     words.should_be("unpack w N WORD... or unpack a N WORD...");
     let side = side(words)?;
@@ -88,7 +91,8 @@ fn unpack(words: &mut Words<'_>) -> Result<KernelLine, Fault>
 }
 
 fn step(words: &mut Words<'_>) -> Result<KernelLine, Fault>
-    ensures { Parses (codes "step") step_parts (words_left words.old) result }
+    ensures cases { Parses (codes "step") step_parts (words_left words.old) result }
+    ensures all { OnOk result (words_left words.new ≡ []) }
 {
     words.should_be("step ROW WORD... / WORD...");
     let row = words.number(ROW)?;
@@ -103,7 +107,8 @@ fn step(words: &mut Words<'_>) -> Result<KernelLine, Fault>
 
 // One row, and nothing behind it.
 fn row(words: &mut Words<'_>, usage: &'static str) -> Result<usize, Fault>
-    ensures { OkOrExpected result (λ row. SaysRow row (words_left words.old)) (FailsIn (row_parts usage.entry.now) (words_left words.old)) }
+    ensures cases { OkOrExpected result (λ row. SaysRow row (words_left words.old)) (FailsIn (row_parts usage.entry.now) (words_left words.old)) }
+    ensures all { OnOk result (words_left words.new ≡ []) }
 {
     words.should_be(usage);
     let row = words.number(ROW)?;

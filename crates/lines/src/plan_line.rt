@@ -1,5 +1,5 @@
 // The line `plan KIND X Y DEPTH INTERVAL ROWS LONGEST ZW ZA`.
-ghost use Rattle.std.specs.Prelude.{◌≡◌};
+ghost use Rattle.std.specs.Prelude.{◌≡◌, [], OnOk};
 ghost use Rattle.lines.specs.Words.{words_left, usage_of, OkOrExpected};
 ghost use Rattle.lines.specs.PlanLines.{SaysPlan, SpellsBounds, SpellsZeros, bound_parts, zero_parts, plan_parts};
 ghost use Rattle.lines.specs.Parts.{FailsIn};
@@ -19,7 +19,8 @@ pub struct PlanLine {
 impl PlanLine {
     // Takes the words after `plan`.
     pub fn parse(words: &mut Words<'_>) -> Result<PlanLine, Fault>
-        ensures { OkOrExpected result (λ line. SaysPlan line (words_left words.old)) (FailsIn plan_parts (words_left words.old)) }
+        ensures cases { OkOrExpected result (λ line. SaysPlan line (words_left words.old)) (FailsIn plan_parts (words_left words.old)) }
+        ensures all { OnOk result (words_left words.new ≡ []) }
     {
         words.should_be("plan KIND X Y DEPTH INTERVAL ROWS LONGEST ZW ZA");
         let kind = words.number("KIND from 0 to 65535")?;

@@ -1,5 +1,5 @@
 // The words of a line, and the numbers that they spell.
-ghost use Rattle.std.specs.Prelude.{◌≡◌, ◌≢◌, ◌∷◌, ◌↔◌, [], MatchOption, OnOk, IsTrue};
+ghost use Rattle.std.specs.Prelude.{◌≡◌, ◌≢◌, ◌∷◌, ◌↔◌, [], MatchOption, OnOk, IsTrue, drop};
 ghost use Rattle.lines.specs.Words.{texts, words_left, usage_of, FaultSays, OkOrExpected, OkOrFault, Spells, SpellsNone, FirstSpells, NoNumber, SpellEach, OneSpellsNone, SpellsToSlash, NoListToSlash, slash};
 
 use crate::fault::Fault;
@@ -64,6 +64,7 @@ impl<'a> Words<'a> {
         T::Err: Drop,
         ensures cases { OkOrExpected result (FirstSpells T.from_str_gives (words_left self.old) (words_left self.new)) (NoNumber T.from_str_gives (usage_of self.old) expected.entry.now (words_left self.old)) }
         ensures usage { usage_of self.new ≡ usage_of self.old }
+        ensures left { words_left self.new ≡ drop 1 (words_left self.old) }
     {
         let word = self.next().ok_or(self.unexpected())?;
         spelled(word, expected)
@@ -105,12 +106,13 @@ impl<'a> Words<'a> {
     }
 
     // Nothing may be left on the line.
-    pub fn end(&mut self) -> Result<(), Fault>
-        ensures cases { OkOrExpected result (λ unit. words_left self.old ≡ []) (λ text. (words_left self.old ≢ []) × (text ≡ usage_of self.old)) }
+    pub fn end(&self) -> Result<(), Fault>
+        ensures cases { OkOrExpected result (λ unit. words_left self.now ≡ []) (λ text. (words_left self.now ≢ []) × (text ≡ usage_of self.now)) }
     {
-        match self.next() {
-            Some(_) => Err(self.unexpected()),
-            None => Ok(()),
+        if self.left.is_empty() {
+            Ok(())
+        } else {
+            Err(self.unexpected())
         }
     }
 }
