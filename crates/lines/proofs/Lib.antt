@@ -1,2 +1,3 @@
 pub mod Taken
 pub mod Refusals
+pub mod Cutting

@@ -1,6 +1,8 @@
 -- The words of a line, the numbers that they spell, and why they are refused.
-use Rattle.std.specs.Prelude.{◌≡◌, ◌≢◌, ℕ, List, [], ◌∷◌, ◌++◌, ◌⊎◌, map, Ok, Err, Result, MatchResult, codes}
+use Rattle.std.specs.Prelude.{◌≡◌, ◌≢◌, ℕ, List, [], ◌∷◌, ◌++◌, ◌⊎◌, map, if◌then◌else◌, Ok, Err, Result, MatchResult, codes}
+use Rattle.std.specs.Char.{is_ascii_whitespace}
 use Rattle.std.specs.List.{AllZip, AllByRecursion}
+use Rattle.std.specs.Str.Iter.{split_ascii_whitespace_text}
 use Rattle.std.specs.Borrow.{Bor}
 use Rattle.lines.specs.declared.words.Words.{Words}
 use Rattle.lines.specs.declared.fault.Fault.{Fault}
@@ -14,9 +16,24 @@ Text = List ℕ
 abbrev pub texts : List (Bor Text) → List Text
 texts = map (λ word. word.now)
 
--- the words that are left
+-- a word that has ended, where it has bytes
+abbrev pub ended : Text → List Text
+ended [] = []
+ended (b ∷ word) = (b ∷ word) ∷ []
+
+-- the words of bytes behind a word that has begun: blanks end a word
+abbrev pub words_from : (begun : Text) → List ℕ → List Text
+words_from begun [] = ended begun
+words_from begun (b ∷ bytes) =
+    if is_ascii_whitespace b then ended begun ++ words_from [] bytes else words_from (begun ++ (b ∷ [])) bytes
+
+-- the words of a text: what stands between blanks
+abbrev pub words_in : Text → List Text
+words_in = words_from []
+
+-- the words that are left: those that are cut already, and those of the text behind them
 abbrev pub words_left : Words → List Text
-words_left words = texts words.left.now
+words_left words = texts words.left.now ++ words_in (split_ascii_whitespace_text words.behind)
 
 -- what the line should be
 abbrev pub usage_of : Words → Text

@@ -1,10 +1,10 @@
 // The words of a line, and the numbers that they spell.
-ghost use Rattle.std.specs.Prelude.{◌≡◌, ◌≢◌, ◌∷◌, ◌↔◌, [], MatchOption, OnOk, IsTrue, drop};
-ghost use Rattle.lines.specs.Words.{texts, words_left, usage_of, FaultSays, OkOrExpected, OkOrFault, Spells, SpellsNone, FirstSpells, NoNumber, SpellEach, OneSpellsNone, SpellsToSlash, NoListToSlash, slash};
+ghost use Rattle.std.specs.Prelude.{◌≡◌, ◌≢◌, ◌∷◌, ◌↔◌, [], MatchOption, MatchResult, OnOk, IsTrue, drop};
+ghost use Rattle.lines.specs.Words.{texts, words_in, words_left, usage_of, FaultSays, OkOrExpected, OkOrFault, Spells, SpellsNone, FirstSpells, NoNumber, SpellEach, OneSpellsNone, SpellsToSlash, NoListToSlash, slash};
 
 use crate::fault::Fault;
 use std::alloc::Global;
-use std::str::FromStr;
+use std::str::{FromStr, SplitAsciiWhitespace};
 
 pub const ROW: &str = "ROW from 0 to 18446744073709551615";
 
@@ -12,11 +12,13 @@ pub const COUNT: &str = "N from 0 to 18446744073709551615";
 
 pub const WORD: &str = "words from 0 to 65535";
 
-// The words of a line that are left to take, and what the line should be.
+// The words of a line that are left to take, and what the line should be. A line may be long, so the words of a text are
+// cut one at a time, as they are taken, and need no memory.
 #[derive(Drop)]
 pub struct Words<'a> {
     heap: Global,
     left: &'a [&'a str],
+    behind: SplitAsciiWhitespace<'a>,
     usage: &'static str,
 }
 
@@ -28,6 +30,20 @@ impl<'a> Words<'a> {
         Words {
             heap,
             left: words,
+            behind: "".split_ascii_whitespace(),
+            usage,
+        }
+    }
+
+    // The words of a text, which blanks part.
+    pub fn of_text(heap: Global, text: &'a str, usage: &'static str) -> Words<'a>
+        ensures left { words_left result ≡ words_in text.entry.now }
+        ensures usage { usage_of result ≡ usage.entry.now }
+    {
+        Words {
+            heap,
+            left: &[],
+            behind: text.split_ascii_whitespace(),
             usage,
         }
     }
@@ -47,12 +63,13 @@ impl<'a> Words<'a> {
         Fault::Expected(self.usage)
     }
 
+    #[tactic(auto, using(crate::proofs::Cutting::cut_behind))]
     pub fn next(&mut self) -> Option<&'a str>
         ensures word { MatchOption result ((words_left self.old ≡ []) × (words_left self.new ≡ [])) (λ word. words_left self.old ≡ word.now ∷ words_left self.new) }
         ensures usage { usage_of self.new ≡ usage_of self.old }
     {
         let [word, left @ ..] = self.left else {
-            return None;
+            return self.behind.next();
         };
         self.left = left;
         Some(word)
@@ -109,11 +126,24 @@ impl<'a> Words<'a> {
     pub fn end(&self) -> Result<(), Fault>
         ensures cases { OkOrExpected result (λ unit. words_left self.now ≡ []) (λ text. (words_left self.now ≢ []) × (text ≡ usage_of self.now)) }
     {
-        if self.left.is_empty() {
-            Ok(())
-        } else {
-            Err(self.unexpected())
+        let mut words = self.copied()?;
+        match words.next() {
+            Some(_) => Err(self.unexpected()),
+            None => Ok(()),
         }
+    }
+
+    // The same words, to be taken while they stay left here. It needs no memory.
+    fn copied(&self) -> Result<Words<'a>, Fault>
+        ensures { MatchResult result (λ words. words_left words ≡ words_left self.now) (λ fault. ⊥) }
+    {
+        let behind = self.behind.clone()?;
+        Ok(Words {
+            heap: self.heap,
+            left: self.left,
+            behind,
+            usage: self.usage,
+        })
     }
 }
 

@@ -54,8 +54,7 @@ impl Session {
 
     fn take_line(&mut self, bytes: &[u8]) -> Result<Option<Reply>, Fault> {
         let text = std::str::from_utf8(bytes).map_err(|_| Fault::Expected("text in UTF-8"))?;
-        let list: Vec<&str> = text.split_ascii_whitespace().collect(self.heap)?;
-        let mut words = Words::of(self.heap, list.as_slice(), COMMANDS);
+        let mut words = Words::of_text(self.heap, text, COMMANDS);
         let Some(command) = words.next() else {
             return Ok(None);
         };
