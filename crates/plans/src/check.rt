@@ -25,6 +25,8 @@ fn interval_taken(asked: u32, most: u32) -> u32
 }
 
 // The numbers of the plan that is made of a request, with its interval, or the first question that gets a no.
+// Inlined: the check of each kind takes the numbers apart at once, and a call would hand them over in memory.
+#[inline(always)]
 pub(crate) fn answer(kind: Kind, request: &Request) -> Result<Request, PlanRefusal>
     ensures answer { MatchResult result (λ n. Accepted kind request.now n) (λ e. FirstNo kind request.now e) }
     ensures ranges { IfOk result (λ n. RangesHold kind n) }
