@@ -1,5 +1,5 @@
 -- The loops that pack and unpack a list: one group more, and all of them.
-use Rattle.std.proofs.Common.{◌≡◌, ℕ, suc, ◌+◌, ◌-◌, ◌*◌, ◌<◌, ◌≤◌, Bool, true, false, cond, ◌&&◌, eqb, leb, List, ◌++◌, length, take, drop, ℤ, is_ok, Some, None, Ok, Option, Result, sym, refl, ap, ◌∙◌, subst, append_assoc, add-mul, one-mul, arith}
+use Rattle.std.proofs.Common.{◌≡◌, ℕ, suc, ◌+◌, ◌-◌, ◌*◌, ◌<◌, ◌≤◌, Bool, true, false, cond, ◌&&◌, eqb, leb, List, ◌++◌, length, take, drop, ℤ, is_ok, Some, None, Ok, Option, Result, sym, refl, ap, ◌∙◌, subst, append_assoc, add-mul, one-mul, zero-mul, arith}
 use borrow.Rule.Slice.PartMut.{put_mid}
 use Rattle.std.specs.List.{AllByRecursion}
 use Rattle.std.proofs.lemmas.Nat.{mul-le}
@@ -35,7 +35,7 @@ group_written s side codes words r new written before l u e w answer after =
     after ∙ ap (λ x. cond (is_ok x) written before) (answer ∙ pack_ok s.group (words_on s side) s side codes words l u e w)
 
 -- one group more
-write_more : (p : List ℤ → List ℕ) (m w : ℕ) (codes : List ℤ) (words ys whole : List ℕ) (g n k : ℕ) → g < n → g * w ≤ length words → length ys ≡ w
+pub write_more : (p : List ℤ → List ℕ) (m w : ℕ) (codes : List ℤ) (words ys whole : List ℕ) (g n k : ℕ) → g < n → g * w ≤ length words → length ys ≡ w
     → ys ≡ p (filled m (take m (drop (g * m) codes)))
     → take (g * w) words ++ packed_groups p m (n - g) (drop (g * m) codes) ≡ whole
     → take ((g + 1) * w) (put_mid (g * w) k words ys) ++ packed_groups p m (n - (g + 1)) (drop ((g + 1) * m) codes) ≡ whole
@@ -61,6 +61,14 @@ write_turn p m w width codes words ys whole g before after n k same at next h fi
     let here : P g w words = subst (λ (i : ℕ). P i w words) (sym at) (subst (λ (x : ℕ). P before x words) (sym same) inv) in
     let more : P (g + 1) w (put_mid (g * w) k words ys) = write_more p m w codes words ys whole g n k h fits long is here in
     subst (λ (i : ℕ). P i width (put_mid (g * w) k words ys)) (sym next) (subst (λ (x : ℕ). P (g + 1) x (put_mid (g * w) k words ys)) same more)
+
+-- no group yet
+pub write_none : (p : List ℤ → List ℕ) (m w : ℕ) (codes : List ℤ) (words : List ℕ) (n : ℕ) → take (0 * w) words ++ packed_groups p m (n - 0) (drop (0 * m) codes) ≡ packed_groups p m n codes
+write_none p m w codes words n =
+    let z : n - 0 ≡ n = omega arith in
+    ap (λ i. take i words ++ packed_groups p m (n - 0) (drop (0 * m) codes)) (zero-mul w)
+    ∙ ap (λ i. packed_groups p m (n - 0) (drop i codes)) (zero-mul m)
+    ∙ ap (λ i. packed_groups p m i codes) z
 
 -- all groups
 pub write_all : (p : List ℤ → List ℕ) (m w : ℕ) (codes : List ℤ) (words whole : List ℕ) (g n : ℕ) → n ≤ g → length words ≡ n * w

@@ -1,7 +1,8 @@
 -- How many groups and words a list takes, and where each group lies.
-use Rattle.std.proofs.Common.{◌≡◌, ℕ, zero, suc, ◌+◌, ◌-◌, ◌*◌, ◌/◌, ◌%◌, ◌<◌, ◌≤◌, min, pos, sym, ap, ◌∙◌, inl, inr, mul-le-mul_right, mod-lt, add-mul, one-mul, mul-suc, arith}
+use Rattle.std.proofs.Common.{◌≡◌, ℕ, zero, suc, ◌+◌, ◌-◌, ◌*◌, ◌/◌, ◌%◌, ◌<◌, ◌≤◌, min, List, length, take, drop, pos, sym, ap, ◌∙◌, inl, inr, mul-le-mul_right, mod-lt, add-mul, one-mul, mul-suc, arith}
 use native.Mathlib.Nat.{mod-add-div', mul-add-div_right, div-eq_of_lt, div-eq_of_lt-le, div-le_of_le-mul}
 use Rattle.std.proofs.lemmas.Nat.{mul-le, div-add-mod', mod_below}
+use Rattle.std.proofs.lemmas.List.{length-drop, take_all}
 use Rattle.std.proofs.lemmas.Bool.{cases_lt}
 use Rattle.codes.specs.declared.facts.Facts.{Facts}
 use Rattle.codes.specs.declared.shape.Shape.{Shape}
@@ -9,6 +10,7 @@ use Rattle.codes.specs.declared.side.Side.{Side}
 use Rattle.codes.specs.declared.side.Side.TheVariants.{Weights, Activations}
 use Rattle.codes.specs.Codes.{Within, groups}
 use Rattle.codes.specs.Shapes.{ends_on, words_on, ShapeRules}
+use Rattle.kernels.specs.Lists.{words_for}
 
 -- rounding up: the whole groups, and one for the rest
 pub groups_are : (size n : ℕ) → 1 ≤ size → groups size n ≡ n / size + min 1 (n % size)
@@ -52,6 +54,10 @@ group_starts g size n l h =
 pub part_ends : (g width count : ℕ) → g < count → g * width + width ≤ count * width
 part_ends g width count h = omega (arith, mul-le (g + 1) width count width (omega arith) (omega arith), add-mul g 1 width, one-mul width)
 
+-- the words of a list are those of all its groups
+pub words_exact : (f : Facts) (side : Side) (n count width words : ℕ) → words ≡ words_for f.shape side n → count ≡ groups f.shape.group n → width ≡ words_on f.shape side → words ≡ count * width
+words_exact f side n count width words e k h = e ∙ ap (λ x. x * words_on f.shape side) (sym k) ∙ ap (λ y. count * y) (sym h)
+
 -- a group takes at most 8 words
 pub few_words : (f : Facts) (side : Side) (words : ℕ) → words ≡ words_on f.shape side → words ≤ 8
 few_words f Weights words e = omega (arith, f.shape_rules.3.0)
@@ -73,3 +79,17 @@ width_of f F side width h e = h ∙ ap (λ (x : Facts). words_on x.shape side) e
 pub zero_within : (s : Shape) (side : Side) → ShapeRules s → Within (ends_on s side) (pos 0)
 zero_within s Weights r = (r.0.0.1, r.0.1.0)
 zero_within s Activations r = (r.1.0.1, r.1.1.0)
+
+-- a part from `at` as the code cuts it: up to `size` elements, or to the list's end
+pub part_is : {X : Type 0} (xs : List X) (at size : ℕ) → take (min (length xs) (at + size) - at) (drop at xs) ≡ take size (drop at xs)
+part_is xs at size =
+    elim (cases_lt (length xs) (at + size)) [
+      | inl h ↦
+          let e : min (length xs) (at + size) - at ≡ length xs - at = omega arith in
+          ap (λ k. take k (drop at xs)) e
+          ∙ (take_all (length xs - at) (drop at xs) (omega (arith, length-drop at xs)) ∙ sym (take_all size (drop at xs) (omega (arith, length-drop at xs))))
+      | inr h ↦ let e : min (length xs) (at + size) - at ≡ size = omega arith in ap (λ k. take k (drop at xs)) e
+    ]
+
+pub span_is : {X : Type 0} (xs : List X) (at size : ℕ) → take (at + size - at) (drop at xs) ≡ take size (drop at xs)
+span_is xs at size = let e : at + size - at ≡ size = omega arith in ap (λ k. take k (drop at xs)) e

@@ -14,7 +14,7 @@ use Rattle.kernels.specs.Tables.{table_means}
 
 module _ {R : Type 0} (empty : R) where
   -- what holds of every record, and of a new one, holds of every record once the new one is put in
-  table_set : (P : R → Type 0) (rows : List R) (row : ℕ) (new : R) → P new → ((j : ℕ) → P (get_or rows j empty)) → (j : ℕ) → P (get_or (set rows row new) j empty)
+  pub table_set : (P : R → Type 0) (rows : List R) (row : ℕ) (new : R) → P new → ((j : ℕ) → P (get_or rows j empty)) → (j : ℕ) → P (get_or (set rows row new) j empty)
   table_set P [] row new p h j = h j
   table_set P (x ∷ xs) zero new p h zero = p
   table_set P (x ∷ xs) zero new p h (suc j) = h (suc j)
@@ -37,7 +37,7 @@ module _ {R : Type 0} (empty : R) (total : R → ℤ) (steps : R → ℕ) (facts
       }
 
   -- one record is put in, with the total and the steps that a step leaves
-  table_stepped : (new : R) (gain : Result ℤ StepRefusal) → row < length rows
+  pub table_stepped : (new : R) (gain : Result ℤ StepRefusal) → row < length rows
       → total new ≡ total_after gain (total (get_or rows row empty)) → steps new ≡ steps_after gain (steps (get_or rows row empty))
       → Stepped row gain (table_means empty total steps facts rows) (table_means empty total steps facts (set rows row new))
   table_stepped new gain h t s =
@@ -45,7 +45,7 @@ module _ {R : Type 0} (empty : R) (total : R → ℤ) (steps : R → ℕ) (facts
       record { others = others new; total = ap total same ∙ t; steps = ap steps same ∙ s }
 
   -- one record is put in, with total and steps 0
-  table_drained : (new : R) → row < length rows → row < 64 → total new ≡ pos 0 → steps new ≡ 0
+  pub table_drained : (new : R) → row < length rows → row < 64 → total new ≡ pos 0 → steps new ≡ 0
       → Drained row (table_means empty total steps facts rows) (table_means empty total steps facts (set rows row new))
   table_drained new h lt t s =
       let same = get_or-set_same rows row new empty h in
@@ -79,8 +79,21 @@ module _ {R : Type 0} (empty : R) (total : R → ℤ) (steps : R → ℕ) (Holds
       (t ∙ sym (ap (λ (r : Result ℤ StepRefusal). total_after r (total (get_or rows row empty))) g))
       (s ∙ sym (ap (λ (r : Result ℤ StepRefusal). steps_after r (steps (get_or rows row empty))) g))
 
+  -- a new record is put in, with total and steps 0
+  pub record TableDrained (new : R) : Type 0 where
+    pub holds : (j : ℕ) → Holds (get_or (set rows row new) j empty)
+    pub after : Drained row (table_means empty total steps facts rows) (table_means empty total steps facts (set rows row new))
+
+  pub table_drains : (new : R) → length rows ≡ 64 → row < 64 → ((j : ℕ) → Holds (get_or rows j empty)) → Holds new
+      → total new ≡ pos 0 → steps new ≡ 0 → TableDrained new
+  table_drains new all lt hold holds t s =
+      record {
+        holds = table_set empty Holds rows row new holds hold;
+        after = table_drained empty total steps facts rows row new (omega arith) lt t s;
+      }
+
 -- a table of empty records means totals and steps 0
-empty_means : {R : Type 0} (empty : R) (total : R → ℤ) (steps : R → ℕ) → total empty ≡ pos 0 → steps empty ≡ 0 → (count j : ℕ)
+pub empty_means : {R : Type 0} (empty : R) (total : R → ℤ) (steps : R → ℕ) → total empty ≡ pos 0 → steps empty ≡ 0 → (count j : ℕ)
     → (total (get_or (replicate count empty) j empty) ≡ pos 0) × (steps (get_or (replicate count empty) j empty) ≡ 0)
 empty_means empty total steps t s count = table_fill empty (λ r. (total r ≡ pos 0) × (steps r ≡ 0)) count (t, s)
 
@@ -136,7 +149,7 @@ module _ {R : Type 0} (empty : R) (rows : List R) (row : ℕ) (r : Result R RowR
   taken_drains total steps facts all t s =
       subst (λ (rs : List R). Drained row (table_means empty total steps facts rows) (table_means empty total steps facts rs)) (sym (taken (ltb row 64) refl))
       (cond_both (ltb row 64) (set rows row empty) rows (λ rs. Drained row (table_means empty total steps facts rows) (table_means empty total steps facts rs))
-      (λ e. let lt = ltb-true row 64 e in table_drained empty total steps facts rows row empty (omega arith) lt t s)
+      (λ e. (table_drains empty total steps (λ _. Unit {0}) facts rows row empty all (ltb-true row 64 e) (λ _. tt) tt t s).after)
       (λ e. record {
         others = record { facts = refl; total = λ _ _. refl; steps = λ _ _. refl };
         total = sym (cond-false (ltb row 64) (pos 0) (total (get_or rows row empty)) e);

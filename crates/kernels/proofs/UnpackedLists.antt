@@ -91,7 +91,7 @@ module _ (unpacked : List ℕ → Option (List ℤ)) (m w count n : ℕ) (words 
         | inr l ↦ take_all (min n (g * m + m) - g * m) group (omega arith) ∙ sym (take_all (n - g * m) group (omega arith))
       ]
 
-  read_more : (g k : ℕ) (codes ys all : List ℤ) → g < count → g * m < n → length codes ≡ n → length ys ≡ min n (g * m + m) - g * m
+  pub read_more : (g k : ℕ) (codes ys all : List ℤ) → g < count → g * m < n → length codes ≡ n → length ys ≡ min n (g * m + m) - g * m
       → ((group : List ℤ) → unpacked (take w (drop (g * w) words)) ≡ Some group → length group ≡ m)
       → ((group : List ℤ) → unpacked (take w (drop (g * w) words)) ≡ Some group → ys ≡ take (min n (g * m + m) - g * m) group)
       → ReadTo g codes all → ReadTo (g + 1) (put_mid (g * m) k codes ys) all
@@ -130,6 +130,17 @@ module _ (unpacked : List ℕ → Option (List ℤ)) (m w count n : ℕ) (words 
       let none : r.rest ≡ [] = ok_same r.rest [] (sym r.left ∙ rest_all g e) in
       let t : take (min n (g * m)) codes ≡ codes = take_all (min n (g * m)) codes (omega (arith, mul-le count m g m e (omega arith))) in
       sym (ap (λ y. take (min n (g * m)) codes ++ y) none ∙ append-nil (take (min n (g * m)) codes) ∙ t) ∙ r.whole
+
+-- a list by sizes that are those of another shape
+pub list_at : (unpacked : List ℕ → Option (List ℤ)) (m w size width n : ℕ) (words : List ℕ) → m ≡ size → w ≡ width
+    → unpacked_groups unpacked m w 0 (groups m n) n words ≡ unpacked_groups unpacked size width 0 (groups size n) n words
+list_at unpacked m w size width n words e h =
+    ap (λ x. unpacked_groups unpacked x w 0 (groups x n) n words) e ∙ ap (λ y. unpacked_groups unpacked size y 0 (groups size n) n words) h
+
+-- all of its groups
+pub start_at : (unpacked : List ℕ → Option (List ℤ)) (m w size width n : ℕ) (words : List ℕ) → m ≡ size → w ≡ width
+    → bad_group (rest_from unpacked m w (groups m n) n words 0) ≡ bad_group (unpacked_groups unpacked size width 0 (groups size n) n words)
+start_at unpacked m w size width n words e h = ap bad_group (rest_none unpacked m w (groups m n) n words ∙ list_at unpacked m w size width n words e h)
 
 -- ---- what the answer says
 

@@ -22,7 +22,7 @@ module _ (number : ℕ) (k : Kind) (r : Request) (numbered : kind_number k ≡ n
   answered : (a : Result AnyPlan PlanRefusal) → Answered k numbers_of r a → (j : Kind) → kind_number j ≡ number → Answered j numbers_of r a
   answered a h j e = subst (λ (i : Kind). Answered i numbers_of r a) (sym (same_kind j k (e ∙ sym numbered))) h
 
-  numbered_plan : (p : AnyPlan) → kind_of p ≡ k → Accepted k r (numbers_of p) → NumberedAnswer number r (Ok p)
+  pub numbered_plan : (p : AnyPlan) → kind_of p ≡ k → Accepted k r (numbers_of p) → NumberedAnswer number r (Ok p)
   numbered_plan p same h =
       record {
         unknown = (λ q. absurd (ok_err (Ok p) p UnknownKind refl q), λ none. absurd (none k numbered));
@@ -30,7 +30,7 @@ module _ (number : ℕ) (k : Kind) (r : Request) (numbered : kind_number k ≡ n
         kind = λ plan q. ap (λ (x : AnyPlan). kind_number (kind_of x)) (sym (same_ok (Ok p) p plan refl q)) ∙ (ap kind_number same ∙ numbered);
       }
 
-  numbered_refusal : (e : PlanRefusal) → FirstNo k r e → NumberedAnswer number r (Err e)
+  pub numbered_refusal : (e : PlanRefusal) → FirstNo k r e → NumberedAnswer number r (Err e)
   numbered_refusal e h =
       record {
         unknown = (λ q. absurd (subst (FirstNo k r) (same_err (Err e) e UnknownKind refl q) h).no, λ none. absurd (none k numbered));
