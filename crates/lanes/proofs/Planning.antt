@@ -15,7 +15,7 @@ use Rattle.plans.proofs.LaneBound.{lane_bound}
 use Rattle.lanes.specs.Lanes.{bits_up_to, p1_width, p2_width}
 use Rattle.lanes.specs.Rows.{ShapeFits, most_of}
 use Rattle.lanes.specs.Packings.{lane_shape}
-use Rattle.lanes.specs.Makes.{Ready}
+use Rattle.lanes.specs.Makes.{Kept, Ready}
 
 -- ---- a lane that holds the products of an interval holds each code
 
@@ -61,10 +61,13 @@ ready bits f w v d x y h narrow hd hx hy hh eh lane endx endy fits es ev =
       };
     }
 
--- the same of equal numbers
-pub ready_as : (bits : ℕ) (f : Facts) (w v : ℕ) (m n : Request) → Ready bits f w v m.depth m.weight_size m.activation_size → n ≡ m
-    → Ready bits f w v n.depth n.weight_size n.activation_size
-ready_as bits f w v m n r e = rw e r
+-- the same of equal numbers and an equal width, and of lanes whose fields are equal to those numbers
+pub ready_as : (bits : ℕ) (f : Facts) (width : Request → ℕ) (v : ℕ) (m n : Request) (w : ℕ) → Ready bits f (width m) v m.depth m.weight_size m.activation_size
+    → n ≡ m → w ≡ width n → Ready bits f w v n.depth n.weight_size n.activation_size
+ready_as bits f width v m n w r e ew = rw (ew, e) r
+
+pub kept_as : (bits : ℕ) (f : Facts) (w d x y w' d' x' y' : ℕ) → Kept bits f w d x y → w' ≡ w → d' ≡ d → x' ≡ x → y' ≡ y → Kept bits f w' d' x' y'
+kept_as bits f w d x y w' d' x' y' k ew ed ex ey = rw (ew, ed, ex, ey) k
 
 lanes_all : (w d : ℕ) → 1 ≤ d → w * d ≡ w * (d - 1) + w
 lanes_all w d h =

@@ -1,12 +1,12 @@
 -- A step and a drain of the rows of a kernel.
-use Rattle.std.proofs.Common.{◌≡◌, ℕ, ◌+◌, List, length, get_or, set, cond, is_ok, Result, pos, ◌+ℤ◌, refl, arith}
+use Rattle.std.proofs.Common.{◌≡◌, ℕ, ◌+◌, ◌<◌, List, length, get_or, set, cond, is_ok, Result, pos, ◌+ℤ◌, refl, arith}
 use Rattle.std.proofs.lemmas.Int.{ints}
 use Rattle.codes.specs.declared.facts.Facts.{Facts}
 use Rattle.kernels.specs.declared.refusal.RowRefusal.{RowRefusal}
 use Rattle.kernels.specs.Answers.{row_answer, step_gain}
 use Rattle.kernels.specs.Meanings.{Drained}
 use Rattle.kernels.specs.Allowed.{StepAllowed}
-use Rattle.kernels.proofs.Tables.{TableStepped, table_gains, taken_holds, taken_drains}
+use Rattle.kernels.proofs.Tables.{TableStepped, table_gains, TableDrained, table_drains, taken_holds, taken_drains}
 use Rattle.split.specs.declared.split.Split.{Split}
 use Rattle.split.specs.declared.split_row.SplitRow.{SplitRow}
 use Rattle.split.specs.Words.{unpacked_split}
@@ -44,6 +44,11 @@ module _ (k : Split) (row : ℕ) (weights activations : List ℕ)
 
 pub cleared : (f : Facts) (r : SplitRow) → r.steps ≡ 0 → r.first ≡ pos 0 → r.second ≡ pos 0 → Holds f r
 cleared f r es ef eg = (omega arith, (omega (arith, ints), omega (arith, ints)), (omega (arith, ints), omega (arith, ints)))
+
+pub drain_table : (k : Split) (row : ℕ) (new : SplitRow) → length k.rows ≡ 64 → row < 64 → new.steps ≡ 0 → new.first ≡ pos 0 → new.second ≡ pos 0
+    → TableDrained empty_row row_total (λ r. r.steps) (Holds k.facts) k.facts k.rows row new
+drain_table k row new all lt es ef eg =
+    table_drains empty_row row_total _ _ k.facts k.rows row new all lt k.rows_rule (cleared k.facts new es ef eg) (omega (arith, ints)) es
 
 -- the row is taken, and answered as it was
 module _ (k : Split) (row : ℕ) (r : Result SplitRow RowRefusal) (rows : List SplitRow) (answer : r ≡ row_answer row (get_or k.rows row empty_row))

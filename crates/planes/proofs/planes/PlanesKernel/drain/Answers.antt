@@ -1,7 +1,6 @@
-use Rattle.std.proofs.Common.{◌≡◌, length, ap, rules}
+use Rattle.std.proofs.Common.{◌≡◌, length, rules}
 use Rattle.std.proofs.lemmas.Result.{err_from_is_err_and}
-use Rattle.kernels.proofs.Tables.{row_refused, row_answered, drain_answer}
-use Rattle.planes.specs.declared.planes_row.PlanesRow.{PlanesRow}
+use Rattle.kernels.proofs.Tables.{row_refused}
 use Rattle.planes.proofs.Stepping.{taken_row_holds, taken_row_drains}
 use Rattle.planes.proofs.planes.PlanesKernel.drain.Goals as goal
 
@@ -17,14 +16,5 @@ returns-in_err-drained c =
     let p = err_from_is_err_and c.from_residual.result c.from_residual.ensures.1 in
     record {
       answer = rw (p.1, p.2) (row_refused c.args.row _ _ _ c.in_err-drained.ensures.answer);
-      after = taken_row_drains c.args.self.now c.args.row c.take_row.result c.take_row.new.rows c.take_row.ensures.answer c.take_row.ensures.after all;
-    }
-
-pub returns : goal.returns
-returns c =
-    let all : length c.args.self.now.rows ≡ 64 = search rules in
-    let kept = row_answered c.args.row _ _ c.in_ok-drained.ensures.answer in
-    record {
-      answer = drain_answer c.args.row c.in_ok-drained.drained.lane _ kept.0 (search rules) (ap (λ (r : PlanesRow). r.lane) kept.1);
       after = taken_row_drains c.args.self.now c.args.row c.take_row.result c.take_row.new.rows c.take_row.ensures.answer c.take_row.ensures.after all;
     }

@@ -1,7 +1,6 @@
-use Rattle.std.proofs.Common.{◌≡◌, length, ap, ◌∙◌, rules}
+use Rattle.std.proofs.Common.{◌≡◌, length, rules}
 use Rattle.std.proofs.lemmas.Result.{err_from_is_err_and}
-use Rattle.kernels.proofs.Tables.{row_refused, row_answered, signed_answer}
-use Rattle.split.specs.Tables.{row_total}
+use Rattle.kernels.proofs.Tables.{row_refused}
 use Rattle.split.proofs.RowTables.{taken_row_holds, taken_row_drains}
 use Rattle.split.proofs.split.SplitKernel.drain.Goals as goal
 
@@ -20,11 +19,7 @@ returns-in_err-drained c =
       after = taken_row_drains c.args.self.now c.args.row c.take_row.result c.take_row.new.rows c.take_row.ensures.answer c.take_row.ensures.after all;
     }
 
-pub returns : goal.returns
-returns c =
+pub returns-clause-after : goal.returns-clause-after
+returns-clause-after c =
     let all : length c.args.self.now.rows ≡ 64 = search rules in
-    let kept = row_answered c.args.row _ _ c.in_ok-drained.ensures.answer in
-    record {
-      answer = signed_answer c.args.row c.total.result _ kept.0 (record { sfits = c.total.type_inv }) (c.total.ensures ∙ ap row_total kept.1);
-      after = taken_row_drains c.args.self.now c.args.row c.take_row.result c.take_row.new.rows c.take_row.ensures.answer c.take_row.ensures.after all;
-    }
+    taken_row_drains c.args.self.now c.args.row c.take_row.result c.take_row.new.rows c.take_row.ensures.answer c.take_row.ensures.after all
