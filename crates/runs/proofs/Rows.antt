@@ -1,19 +1,32 @@
 -- The rows of a feed, one after another.
-use Rattle.std.proofs.Common.{◌≡◌, ℕ, zero, suc, ◌+◌, ◌-◌, ◌*◌, ◌<◌, ◌≤◌, ◌⊎◌, List, length, get_or, set, ℤ, pos, Some, None, Ok, Err, Option, Result, sym, refl, ap, ◌∙◌, subst, inl, inr, mul-le-mul_right, mul-le-mul, suc-add, zero-add, zero-mul, add-one, arith, get_or-set_other, get_or-set_same}
+use Rattle.std.proofs.Common.{◌≡◌, ℕ, zero, suc, ◌+◌, ◌-◌, ◌*◌, ◌<◌, ◌≤◌, ◌⊎◌, List, length, get_or, take, drop, set, ℤ, pos, Some, None, Ok, Err, Option, Result, sym, refl, ap, ◌∙◌, subst, inl, inr, mul-le-mul_right, mul-le-mul, suc-add, zero-add, zero-mul, add-one, arith, get_or-set_other, get_or-set_same}
 use Rattle.std.proofs.lemmas.Bool.{cases_eq}
 use Rattle.codes.specs.declared.facts.Facts.{Facts}
 use Rattle.codes.specs.declared.side.Side.TheVariants.{Weights}
 use Rattle.codes.specs.Codes.{groups}
 use Rattle.kernels.specs.Lists.{words_for}
 use Rattle.kernels.proofs.ListSizes.{groups_hold}
-use Rattle.runs.specs.Feeds.{bad_in, or_else, first_bad_row, codes_of}
+use Rattle.runs.specs.Feeds.{row_words, bad_in, or_else, first_bad_row, codes_of}
 use Rattle.runs.specs.Passes.{codes_total, list_total}
 
 -- ---- sizes
 
+pub words_few : (count width : ℕ) → count ≤ 65536 → width ≤ 8 → count * width ≤ 524288
+words_few count width l k = mul-le-mul {n₂ = 65536} {m₂ = 8} l k
+
+pub rows_few : (rows count width : ℕ) → rows ≤ 64 → count ≤ 65536 → width ≤ 8 → rows * (count * width) ≤ 33554432
+rows_few rows count width i l k = mul-le-mul {n₂ = 64} {m₂ = 524288} i (words_few count width l k)
+
 -- the words of a row lie within the words of all rows
 pub row_ends : (row rows size : ℕ) → row < rows → row * size + size ≤ rows * size
 row_ends row rows size l = let p : suc row * size ≤ rows * size = mul-le-mul_right size l in omega (arith, p)
+
+-- the words of a row as they are cut by place
+pub row_part : (f F : Facts) (n size row : ℕ) (weights : List ℕ) → size ≡ words_for f.shape Weights n → f ≡ F
+    → take ((row * size + size) - row * size) (drop (row * size) weights) ≡ row_words F.shape n weights row
+row_part f F n size row weights es e =
+    let span : (row * size + size) - row * size ≡ size = omega arith in
+    ap (λ i. take i (drop (row * size) weights)) span ∙ ap (λ i. take i (drop (row * i) weights)) (es ∙ ap (λ (x : Facts). words_for x.shape Weights n) e)
 
 -- the words of a row of some codes are some
 pub row_some : (f : Facts) (n : ℕ) → 1 ≤ n → 1 ≤ words_for f.shape Weights n

@@ -125,6 +125,16 @@ module _ (interval : ℕ) (base : ℤ) (first : ℕ) (gains : List ℤ) (steps :
 
 -- ---- a row that is stepped once a group
 
+pub stepped_none : (m : Meaning) (row : ℕ) (old : RowRecord) (gain : ℕ → ℤ) → m.steps row < m.facts.interval → RowStepped m row old gain 0 0 m old
+stepped_none m row old gain room =
+    record {
+      others = record { facts = refl; total = λ q ne. refl; steps = λ q ne. refl };
+      weight_sum = refl;
+      small = omega arith;
+      room = room;
+      row_at = λ base first gains R. R;
+    }
+
 module _ (m n k : Meaning) (row : ℕ) (old new next : RowRecord) (gain : ℕ → ℤ) (j made more : ℕ) (some : 1 ≤ m.facts.interval) (few : j < 65536)
     (R : RowStepped m row old gain j made n new) (S : SteppedInto n row new (gain j) more k next) where
   same_interval : n.facts.interval ≡ m.facts.interval

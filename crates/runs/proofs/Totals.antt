@@ -86,6 +86,13 @@ widen (negsuc n) h = record { sfits = omega (arith, h.sfits) }
 pub code_added : (m : ℕ) (code : ℤ) → m < 2 ^ 64 → SFits w16 code → to_z w64 ((m + of_z w64 (to_z w16 (of_z w16 code))) % 18446744073709551616) ≡ int_wrap w64 (to_z w64 m +ℤ code)
 code_added m code l f = ap (λ (y : ℤ). to_z w64 ((m + of_z w64 y) % 18446744073709551616)) (to_z-of_z w16 code f) ∙ wrapping_add_onto w64 m code l (widen code f)
 
+zero_fits : SFits w64 (pos 0)
+zero_fits = record { sfits = omega arith }
+
+pub summed_none : (o : Option (List ℤ)) (used : ℕ) → SummedTo o used 0 (pos 0)
+summed_none None used = refl
+summed_none (Some codes) used = (sym (int_wrap_fits w64 (pos 0) zero_fits), λ q l k. absurd (omega arith))
+
 or_false : (a b : Bool) → (a || b) ≡ false → (a ≡ false) × (b ≡ false)
 or_false true b h = absurd (true≢false h)
 or_false false b h = (refl, h)
