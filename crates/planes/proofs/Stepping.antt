@@ -1,7 +1,6 @@
 -- A step and a drain of a row.
 use Rattle.std.proofs.Common.{◌≡◌, ℕ, suc, ◌+◌, ◌-◌, ◌*◌, ◌^◌, ◌<◌, ◌≤◌, List, length, get_or, set, ℤ, pos, cond, is_ok, Ok, Result, sym, refl, ap, ◌∙◌, subst, mul-le-mul_right, arith}
 use lib.Lanes.{Each1}
-use Rattle.std.proofs.lemmas.Bool.{cond_both}
 use Rattle.codes.specs.declared.shape.Shape.{Shape}
 use Rattle.codes.specs.declared.side.Side.TheVariants.{Weights, Activations}
 use Rattle.codes.specs.declared.facts.Facts.{Facts}
@@ -12,7 +11,7 @@ use Rattle.kernels.specs.Meanings.{Drained}
 use Rattle.kernels.specs.Allowed.{StepAllowed}
 use Rattle.kernels.proofs.Gains.{gain_is}
 use Rattle.kernels.proofs.Naturals.{dot_n, dot_most}
-use Rattle.kernels.proofs.Tables.{table_set, TableStepped, table_gains, taken_drains}
+use Rattle.kernels.proofs.Tables.{table_set, TableStepped, table_gains, taken_holds, taken_drains}
 use Rattle.planes.specs.declared.planes.Planes.{Planes}
 use Rattle.planes.specs.declared.planes_row.PlanesRow.{PlanesRow}
 use Rattle.planes.specs.Planes.{planes_from, unpacked_planes}
@@ -92,10 +91,7 @@ drained_holds k row new el =
 module _ (k : Planes) (row : ℕ) (r : Result PlanesRow RowRefusal) (rows : List PlanesRow) (answer : r ≡ row_answer row (get_or k.rows row empty_row))
     (after : rows ≡ cond (is_ok r) (set k.rows row empty_row) k.rows) where
   pub taken_row_holds : (j : ℕ) → RowHolds (most_of k.facts.shape) (get_or rows j empty_row)
-  taken_row_holds j =
-      subst (λ (rs : List PlanesRow). RowHolds (most_of k.facts.shape) (get_or rs j empty_row)) (sym after)
-      (cond_both (is_ok r) (set k.rows row empty_row) k.rows (λ rs. RowHolds (most_of k.facts.shape) (get_or rs j empty_row))
-      (λ _. drained_holds k row empty_row refl j) (λ _. k.rows_rule j))
+  taken_row_holds = taken_holds empty_row k.rows row r rows answer after (RowHolds (most_of k.facts.shape)) (omega arith) k.rows_rule
 
   pub taken_row_drains : length k.rows ≡ 64 → Drained row (planes_means k.facts k.rows) (planes_means k.facts rows)
   taken_row_drains all = taken_drains empty_row k.rows row r rows answer after (λ q. pos q.lane) (λ q. q.steps) k.facts all refl refl
