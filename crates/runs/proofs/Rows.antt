@@ -5,7 +5,7 @@ use Rattle.codes.specs.declared.facts.Facts.{Facts}
 use Rattle.codes.specs.declared.side.Side.TheVariants.{Weights}
 use Rattle.codes.specs.Codes.{groups}
 use Rattle.kernels.specs.Lists.{words_for}
-use Rattle.kernels.proofs.ListSizes.{groups_hold}
+use Rattle.kernels.proofs.ListSizes.{groups_hold, span_is}
 use Rattle.runs.specs.Feeds.{row_words, bad_in, or_else, first_bad_row, codes_of}
 use Rattle.runs.specs.Passes.{codes_total, list_total}
 
@@ -25,8 +25,7 @@ row_ends row rows size l = let p : suc row * size ≤ rows * size = mul-le-mul_r
 pub row_part : (f F : Facts) (n size row : ℕ) (weights : List ℕ) → size ≡ words_for f.shape Weights n → f ≡ F
     → take ((row * size + size) - row * size) (drop (row * size) weights) ≡ row_words F.shape n weights row
 row_part f F n size row weights es e =
-    let span : (row * size + size) - row * size ≡ size = omega arith in
-    ap (λ i. take i (drop (row * size) weights)) span ∙ ap (λ i. take i (drop (row * i) weights)) (es ∙ ap (λ (x : Facts). words_for x.shape Weights n) e)
+    span_is weights (row * size) size ∙ ap (λ i. take i (drop (row * i) weights)) (es ∙ ap (λ (x : Facts). words_for x.shape Weights n) e)
 
 -- the words of a row of some codes are some
 pub row_some : (f : Facts) (n : ℕ) → 1 ≤ n → 1 ≤ words_for f.shape Weights n
