@@ -38,6 +38,8 @@ word_ended (b ∷ word) [] (c ∷ rest) some all one last = let e : length (c �
 word_ended (b ∷ word) (s ∷ []) rest some all one last = rw all.0 refl
 word_ended (b ∷ word) (s ∷ t ∷ sep) rest some all one last = absurd (omega arith)
 
+-- ---- no character of a word is a blank, and so no byte
+
 high_no_blank : (b : ℕ) → 128 ≤ b → IsNoBlank b
 high_no_blank b h = grind (arith, tests)
 
@@ -50,11 +52,11 @@ none_blank word none = recursion_from_All IsNoBlank word (λ k d l. byte_no_blan
 
 -- ---- a cut
 
-pub no_word : (text : Text) → AllPass is_ascii_whitespace text → words_in text ≡ []
+no_word : (text : Text) → AllPass is_ascii_whitespace text → words_in text ≡ []
 no_word text all =
     ap words_in (sym (append-nil text)) ∙ blanks_passed text [] (recursion_from_All IsBlank text all)
 
-pub first_word : (text gap word sep rest : Text) → text ≡ gap ++ (word ++ (sep ++ rest)) → 0 < length word → NoCharPasses is_ascii_whitespace word → AllPass is_ascii_whitespace gap → IsAsciiSeparator sep rest → words_in text ≡ word ∷ words_in rest
+first_word : (text gap word sep rest : Text) → text ≡ gap ++ (word ++ (sep ++ rest)) → 0 < length word → NoCharPasses is_ascii_whitespace word → AllPass is_ascii_whitespace gap → IsAsciiSeparator sep rest → words_in text ≡ word ∷ words_in rest
 first_word text gap word sep rest parts some none blank ends =
     ap words_in parts
     ∙ blanks_passed gap (word ++ (sep ++ rest)) (recursion_from_All IsBlank gap blank)

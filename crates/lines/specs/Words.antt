@@ -21,7 +21,7 @@ abbrev pub ended : Text → List Text
 ended [] = []
 ended (b ∷ word) = (b ∷ word) ∷ []
 
--- the words of bytes behind a word that has begun: blanks end a word
+-- the words of bytes behind a word that has begun: a blank ends a word (space, tab, line feed, form feed, carriage return)
 abbrev pub words_from : (begun : Text) → List ℕ → List Text
 words_from begun [] = ended begun
 words_from begun (b ∷ bytes) =
